@@ -1,4 +1,5 @@
 use Rattle.std.specs.Prelude.{◌≡◌, ◌≢◌, ℕ, ◌-◌, ◌^◌, ◌<◌, ◌⊎◌, ⊤, List, ◌++◌, length, take, Option, None, Some, Result, Ok, Err, option_map}
+use Rattle.ink_base.specs.declared.faults.Faults.{Faults}
 use Rattle.ink_base.specs.declared.outside.FileFault.{FileFault}
 use Rattle.ink_base.specs.declared.outside.FileFault.TheVariants as fault
 
@@ -13,11 +14,6 @@ greatest_count = 2 ^ 64 - 1
 -- a fault was counted, or the count stood at its greatest before
 abbrev pub CountsFault : ℕ → ℕ → Type 0
 CountsFault old new = (old < new) ⊎ ((old ≡ greatest_count) × (new ≡ old))
-
--- how often calls of one kind failed, and the name in the last of them that did
-pub record Faults : Type 0 where
-  pub count : ℕ
-  pub name : Option (List ℕ)
 
 -- what an answer leaves of the faults of its kind: only `Failed` comes of a fault, and tells it with the name
 abbrev pub TellsFault : {T : Type 0} → Result T FileFault → List ℕ → Faults → Faults → Type 0

@@ -5,12 +5,14 @@
 //! tests, over real files and streams for the program. Nothing here knows the language.
 #![tactic(auto)]
 
+mod faults;
 mod journal;
 mod outside;
 mod refusal;
 mod sure;
 mod text;
 
+pub use faults::Faults;
 pub use journal::Journal;
 pub use outside::{Failed, FileFault, Files, Gate, Sink, write_whole};
 pub use refusal::{Place, Refusal, Rule};

@@ -3,7 +3,8 @@
 //! Ghost members say what files and sinks hold, where they tell it, and how often their calls failed. A count stops
 //! at the greatest `u64`, so what is said of a rising count is said of counts below that.
 ghost use Rattle.std.specs.Prelude.{◌≡◌, ℕ, ◌+◌, ◌-◌, ◌^◌, ◌<◌, ◌≤◌, ◌⊎◌, List, ◌++◌, length, take, Option, IfOk, OnOk, OnErr};
-ghost use Rattle.ink_base.specs.Outside.{Directory, Faults, CountsFault, TellsFault, Reads, Writes, appended, CutsWrite, greatest_count};
+ghost use Rattle.ink_base.specs.declared.faults.Faults.{Faults};
+ghost use Rattle.ink_base.specs.Outside.{Directory, CountsFault, TellsFault, Reads, Writes, appended, CutsWrite, greatest_count};
 
 use crate::text::Text;
 use std::alloc::Global;
