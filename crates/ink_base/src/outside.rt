@@ -4,7 +4,7 @@
 //! at the greatest `u64`, so what is said of a rising count is said of counts below that.
 ghost use Rattle.std.specs.Prelude.{◌≡◌, ℕ, ◌+◌, ◌-◌, ◌^◌, ◌<◌, ◌≤◌, ◌⊎◌, List, ◌++◌, length, take, Option, IfOk, OnOk, OnErr};
 ghost use Rattle.ink_base.specs.declared.faults.Faults.{Faults};
-ghost use Rattle.ink_base.specs.Outside.{Directory, CountsFault, TellsFault, Reads, Writes, appended, CutsWrite, greatest_count};
+ghost use Rattle.ink_base.specs.Outside.{Directory, CountsFault, TellsFault, Reads, Writes, appended, CutsWrite};
 
 use crate::text::Text;
 use std::alloc::Global;
@@ -69,10 +69,9 @@ pub trait Gate {
 
 /// Writes all of the bytes, piece by piece, and makes no call after one that failed.
 pub fn write_whole<K: Sink>(sink: &mut K, bytes: &[u8]) -> Result<(), Failed>
-    requires { K.faults sink.old < greatest_count }
     ensures contents { OnOk result (K.contents sink.new ≡ appended (K.contents sink.old) bytes.now) }
     ensures ok { OnOk result (K.faults sink.new ≡ K.faults sink.old) }
-    ensures fault { OnErr result (K.faults sink.old < K.faults sink.new) }
+    ensures fault { OnErr result (CountsFault (K.faults sink.old) (K.faults sink.new)) }
     ensures cut { OnErr result (CutsWrite (K.contents sink.old) (K.contents sink.new) bytes.now) }
 {
     let mut written = 0;
