@@ -1,3 +1,4 @@
 pub mod Journal
 pub mod Outside
 pub mod Refusal
+pub mod Stored

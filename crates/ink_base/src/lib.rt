@@ -9,6 +9,7 @@ mod faults;
 mod journal;
 mod outside;
 mod refusal;
+mod stored;
 mod sure;
 mod text;
 
@@ -16,5 +17,5 @@ pub use faults::Faults;
 pub use journal::Journal;
 pub use outside::{Failed, FileFault, Files, Gate, Sink, write_whole};
 pub use refusal::{Place, Refusal, Rule};
-pub use sure::{OpenGate};
+pub use sure::OpenGate;
 pub use text::Text;
