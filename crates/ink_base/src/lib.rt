@@ -6,7 +6,9 @@
 #![tactic(auto)]
 
 mod faults;
+mod host;
 mod journal;
+mod memory;
 mod outside;
 mod refusal;
 mod stored;
@@ -14,7 +16,9 @@ mod sure;
 mod text;
 
 pub use faults::Faults;
+pub use host::{HostFiles, HostSink};
 pub use journal::Journal;
+pub use memory::{MemFiles, MemSink};
 pub use outside::{Failed, FileFault, Files, Gate, Sink, write_whole};
 pub use refusal::{Place, Refusal, Rule};
 pub use sure::OpenGate;

@@ -1,4 +1,4 @@
-use Rattle.std.proofs.Common.{◌≡◌, arith, sym, ap, ◌∙◌}
+use Rattle.std.proofs.Common.{arith, sym, ap, ◌∙◌}
 use Rattle.ink_base.proofs.StoredLemmas.{IsAt-first, bytes_under-take_more}
 use Rattle.ink_base.proofs.stored.place_of.Goals as goal
 
