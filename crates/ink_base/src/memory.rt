@@ -239,3 +239,88 @@ fn taken_of(most: &[u64], call: u64, count: usize) -> usize
         None => count,
     }
 }
+
+#[cfg(test)]
+mod tests {
+    use super::*;
+    use crate::outside::write_whole;
+    use std::test::Fail;
+
+    /// A sink that counts its calls.
+    #[derive(Drop)]
+    struct Counting {
+        sink: MemSink,
+        calls: u64,
+    }
+
+    impl Sink for Counting {
+        ghost contents = { λ s. Some s.sink.bytes };
+
+        ghost faults = { λ s. s.sink.faults };
+
+        fn write(&mut self, piece: &[u8]) -> Result<usize, Failed> {
+            self.calls = self.calls.saturating_add(1);
+            self.sink.write(piece)
+        }
+    }
+
+    #[test]
+    fn no_call_follows_one_that_failed(rt: HostRuntime) -> Result<(), Fail> {
+        let fail = vec![in rt.alloc(); 2]?;
+        let most = vec![in rt.alloc(); 3]?;
+        let sink = MemSink::new(rt.alloc(), 100, fail, most)?;
+        let mut counting = Counting { sink, calls: 0 };
+        assert_eq!(rt; write_whole(&mut counting, b"hello\n"), Err(Failed));
+        assert_eq!(rt; counting.sink.bytes(), b"hel".as_slice());
+        assert_eq!(rt; counting.calls, 2);
+        Ok(())
+    }
+
+    #[test]
+    fn sink_takes_what_the_plan_says(rt: HostRuntime) -> Result<(), Fail> {
+        let fail = vec![in rt.alloc(); 6]?;
+        let most = vec![in rt.alloc(); 2, 0]?;
+        let mut sink = MemSink::new(rt.alloc(), 4, fail, most)?;
+        let calls: [(&[u8], Result<usize, Failed>); 7] = [
+            (b"abc", Ok(2)),
+            (b"c", Err(Failed)),
+            (b"", Ok(0)),
+            (b"cde", Err(Failed)),
+            (b"cd", Ok(2)),
+            (b"", Err(Failed)),
+            (b"e", Err(Failed)),
+        ];
+        for (piece, want) in calls {
+            assert_eq!(rt; sink.write(piece), want);
+        }
+        assert_eq!(rt; sink.bytes(), b"abcd".as_slice());
+        Ok(())
+    }
+
+    #[test]
+    fn files_fail_by_the_plan(rt: HostRuntime) -> Result<(), Fail> {
+        let alloc = rt.alloc();
+        let here = Text::of(alloc, b"a.inko")?;
+        let there = Text::of(alloc, b"b.inko")?;
+        let absent = Text::of(alloc, b"c.inko")?;
+        let mut held = Vec::new(alloc);
+        held.push((here.copy(alloc)?, Vec::from_slice(alloc, b"hello")?))?;
+        let mut files = MemFiles::new(held, vec![in alloc; 4]?);
+        assert_eq!(rt; files.read(alloc, &here, 3)?.as_slice(), b"hel".as_slice());
+        files.write(&there, b"xy")?;
+        assert_eq!(rt; files.read(alloc, &there, 10)?.as_slice(), b"xy".as_slice());
+        assert_eq!(rt; files.read(alloc, &here, 10).err(), Some(FileFault::Failed));
+        assert_eq!(rt;
+            files.read(alloc, &absent, 10).err(),
+            Some(FileFault::Failed)
+        );
+        files.write(&here, b"")?;
+        assert_eq!(rt; files.held(&here), Some(b"".as_slice()));
+        assert_eq!(rt; files.held(&there), Some(b"xy".as_slice()));
+        assert_eq!(rt; files.held(&absent), None);
+        assert_eq!(rt; files.reads.count, 2);
+        let last = files.reads.name.as_ref();
+        assert!(rt; last.is_some_and(|name| name.is(b"c.inko")));
+        Ok(())
+    }
+}

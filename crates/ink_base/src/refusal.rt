@@ -67,3 +67,43 @@ impl Refusal {
         Ok(Text::from_bytes(told))
     }
 }
+
+#[cfg(test)]
+mod tests {
+    use super::*;
+    use std::test::Fail;
+
+    #[test]
+    fn tells_refusals(rt: HostRuntime) -> Result<(), Fail> {
+        let plain = Refusal {
+            rule: Rule::NotBuilt,
+            place: Place::START,
+            detail: None,
+        };
+        assert!(rt;
+            plain
+                .text(rt.alloc())?
+                .is(b"E00 NotBuilt at line 1, column 1")
+        );
+        let detailed = Refusal {
+            rule: Rule::NotBuilt,
+            place: Place {
+                line: 12,
+                column: 7,
+                byte: 140,
+            },
+            detail: Some(Text::of(rt.alloc(), b"class")?),
+        };
+        assert!(rt;
+            detailed
+                .text(rt.alloc())?
+                .is(b"E00 NotBuilt at line 12, column 7: class")
+        );
+        assert!(rt;
+            !detailed
+                .text(rt.alloc())?
+                .is(b"E00 NotBuilt at line 12, column 7")
+        );
+        Ok(())
+    }
+}

@@ -114,3 +114,29 @@ pub struct OpenGate;
 impl Gate for OpenGate {
     fn enter(&self, _worker: u32, _process: u32) {}
 }
+
+#[cfg(test)]
+mod tests {
+    use super::*;
+    use crate::outside::write_whole;
+    use std::test::Fail;
+
+    #[test]
+    fn only_an_absent_name_fails(rt: HostRuntime) -> Result<(), Fail> {
+        let alloc = rt.alloc();
+        let name = Text::of(alloc, b"a.inko")?;
+        let mut files = SureFiles::new(Vec::new(alloc));
+        assert_eq!(rt; files.read(alloc, &name, 9).err(), Some(FileFault::Failed));
+        files.write(&name, b"hello")?;
+        assert_eq!(rt; files.read(alloc, &name, 4)?.as_slice(), b"hell".as_slice());
+        assert_eq!(rt; files.held(&name), Some(b"hello".as_slice()));
+        Ok(())
+    }
+
+    #[test]
+    fn takes_whatever_comes(rt: HostRuntime) -> Result<(), Fail> {
+        write_whole(&mut SureSink::new(), b"hello\n")?;
+        OpenGate.enter(1, 2);
+        Ok(())
+    }
+}
