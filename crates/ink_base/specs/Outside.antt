@@ -1,4 +1,4 @@
-use Rattle.std.specs.Prelude.{◌≡◌, ◌≢◌, ℕ, ◌-◌, ◌^◌, ◌<◌, ◌⊎◌, ⊤, List, ◌++◌, length, take, Option, None, Some, Result, Ok, Err, option_map}
+use Rattle.std.specs.Prelude.{◌≡◌, ◌≢◌, ℕ, ◌+◌, ◌-◌, ◌^◌, ◌<◌, ◌⊎◌, ⊤, min, List, ◌++◌, length, take, Option, None, Some, Result, Ok, Err, option_map}
 use Rattle.ink_base.specs.declared.faults.Faults.{Faults}
 use Rattle.ink_base.specs.declared.outside.FileFault.{FileFault}
 use Rattle.ink_base.specs.declared.outside.FileFault.TheVariants as fault
@@ -10,6 +10,14 @@ Directory = List ℕ → Option (List ℕ)
 -- the count from which on further faults aren't counted
 abbrev pub greatest_count : ℕ
 greatest_count = 2 ^ 64 - 1
+
+-- one more, up to that count
+abbrev pub one_more : ℕ → ℕ
+one_more count = min (count + 1) greatest_count
+
+-- no call failed
+abbrev pub no_faults : Faults
+no_faults = record { count = 0; name = None }
 
 -- a fault was counted, or the count stood at its greatest before
 abbrev pub CountsFault : ℕ → ℕ → Type 0

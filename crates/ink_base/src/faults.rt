@@ -1,4 +1,7 @@
-//! How often calls on files failed.
+//! How often calls failed.
+ghost use Rattle.std.specs.Prelude.{◌≡◌, Some};
+ghost use Rattle.ink_base.specs.Outside.{one_more, CountsFault};
+
 use crate::text::Text;
 
 /// How often calls of one kind failed, and the name in the last of them that did.
@@ -8,4 +11,36 @@ use crate::text::Text;
 pub struct Faults {
     pub count: u64,
     pub name: Option<Text>,
+}
+
+impl Faults {
+    ghost use Rattle.ink_base.specs.Outside.{no_faults};
+
+    /// No call failed.
+    pub(crate) fn none() -> Faults
+        ensures { result ≡ no_faults }
+    {
+        Faults {
+            count: 0,
+            name: None,
+        }
+    }
+
+    /// Counts a call that failed, and keeps its name.
+    pub(crate) fn tell(&mut self, name: Text)
+        ensures count { self.new.count ≡ one_more self.old.count }
+        ensures rises { CountsFault self.old.count self.new.count }
+        ensures name { self.new.name ≡ Some name }
+    {
+        self.count = counted(self.count);
+        self.name = Some(name);
+    }
+}
+
+/// The count with one more, up to the greatest `u64`.
+pub(crate) fn counted(count: u64) -> u64
+    ensures value { result ≡ one_more count }
+    ensures rises { CountsFault count result }
+{
+    count.saturating_add(1)
 }

@@ -6,15 +6,20 @@
 #![tactic(auto)]
 
 mod faults;
+mod host;
 mod journal;
+mod memory;
 mod outside;
 mod refusal;
+mod stored;
 mod sure;
 mod text;
 
 pub use faults::Faults;
+pub use host::{HostFiles, HostSink};
 pub use journal::Journal;
+pub use memory::{MemFiles, MemSink};
 pub use outside::{Failed, FileFault, Files, Gate, Sink, write_whole};
 pub use refusal::{Place, Refusal, Rule};
-pub use sure::{OpenGate};
+pub use sure::OpenGate;
 pub use text::Text;

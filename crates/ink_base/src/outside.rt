@@ -7,7 +7,7 @@ ghost use Rattle.ink_base.specs.declared.faults.Faults.{Faults};
 ghost use Rattle.ink_base.specs.Outside.{Directory, CountsFault, TellsFault, Reads, Writes, appended, CutsWrite};
 
 use crate::text::Text;
-use std::alloc::Global;
+use std::alloc::{AllocError, Global};
 
 /// A call on a device that failed. The object that was called has counted it.
 #[derive(Clone, Copy, Debug, PartialEq, Eq)]
@@ -20,6 +20,16 @@ pub enum FileFault {
     Failed,
     /// There was no memory, and nothing was done.
     OutOfMemory,
+}
+
+impl From<AllocError> for FileFault {
+    ghost use Rattle.ink_base.specs.declared.outside.FileFault.TheVariants.{OutOfMemory};
+
+    ghost from_gives = { λ _ fault. fault ≡ OutOfMemory };
+
+    fn from(_error: AllocError) -> FileFault {
+        FileFault::OutOfMemory
+    }
 }
 
 /// Named files.

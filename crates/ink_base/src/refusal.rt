@@ -56,11 +56,54 @@ impl Refusal {
         ensures { IfOk result (λ text. text ≡ refusal_text self.now) }
     {
         let Place { line, column, .. } = self.place;
-        let mut told = format!(in alloc; "{} at line {line}, column {column}", self.rule)?.into_bytes();
+        let mut told = format!(in alloc;
+            "{} at line {line}, column {column}",
+            self.rule
+        )?.into_bytes();
         if let Some(detail) = &self.detail {
             told.extend_from_slice(b": ")?;
             told.extend_from_slice(detail.bytes())?;
         }
         Ok(Text::from_bytes(told))
+    }
+}
+
+#[cfg(test)]
+mod tests {
+    use super::*;
+    use std::test::Fail;
+
+    #[test]
+    fn tells_refusals(rt: HostRuntime) -> Result<(), Fail> {
+        let plain = Refusal {
+            rule: Rule::NotBuilt,
+            place: Place::START,
+            detail: None,
+        };
+        assert!(rt;
+            plain
+                .text(rt.alloc())?
+                .is(b"E00 NotBuilt at line 1, column 1")
+        );
+        let detailed = Refusal {
+            rule: Rule::NotBuilt,
+            place: Place {
+                line: 12,
+                column: 7,
+                byte: 140,
+            },
+            detail: Some(Text::of(rt.alloc(), b"class")?),
+        };
+        assert!(rt;
+            detailed
+                .text(rt.alloc())?
+                .is(b"E00 NotBuilt at line 12, column 7: class")
+        );
+        assert!(rt;
+            !detailed
+                .text(rt.alloc())?
+                .is(b"E00 NotBuilt at line 12, column 7")
+        );
+        Ok(())
     }
 }
