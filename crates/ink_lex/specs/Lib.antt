@@ -1,0 +1,4 @@
+pub mod Ahead
+pub mod Gap
+pub mod Plain
+pub mod Token

@@ -1,0 +1,3 @@
+pub mod Walk
+pub mod Printing
+pub mod Body
