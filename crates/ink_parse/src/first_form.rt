@@ -114,15 +114,15 @@ const TAIL: [Token; 2] = [
     },
 ];
 
-/// The refusal of a module that isn't of the first form.
-fn not_of_first_form() -> PlainFault
-    ensures { result ≡ PlainFault.Refused not_built }
+/// The refusal of a source that is more than what is built so far. It names the first byte.
+pub fn not_built() -> Refusal
+    ensures { result ≡ not_built }
 {
-    PlainFault::Refused(Refusal {
+    Refusal {
         rule: Rule::NotBuilt,
         place: Place::START,
         detail: None,
-    })
+    }
 }
 
 /// The rest behind the tokens, if they stand at the front.
@@ -178,7 +178,7 @@ fn body(alloc: Global, source: &[u8]) -> Result<Vec<Text>, PlainFault>
     let mut before = Before::Anything;
     while !is_end(rest) {
         let Some((text, behind)) = statement(rest, before) else {
-            return Err(not_of_first_form());
+            return Err(PlainFault::Refused(not_built()));
         };
         texts.push(Text::of(alloc, text)?)?;
         rest = behind;
@@ -195,6 +195,6 @@ pub fn plain(alloc: Global, source: &[u8]) -> Result<Vec<Text>, PlainFault>
 {
     match skip(source, &HEAD) {
         Some(rest) => body(alloc, rest),
-        None => Err(not_of_first_form()),
+        None => Err(PlainFault::Refused(not_built())),
     }
 }

@@ -8,4 +8,4 @@ mod fault;
 mod first_form;
 
 pub use fault::PlainFault;
-pub use first_form::plain;
+pub use first_form::{not_built, plain};

@@ -1,8 +1,6 @@
-use Rattle.std.proofs.Common.{◌≡◌, ℕ, List, ◌∷◌, [], ◌++◌, true, false, refl, sym, subst}
-use Rattle.ink_lex.specs.declared.token.Before.TheVariants.{Anything, NewLine}
-use Rattle.ink_parse.specs.declared.fault.PlainFault.{PlainFault}
-use Rattle.ink_parse.specs.FirstForm.{Spelled, tail, RefusesAll}
-use Rattle.ink_parse.specs.Reading.{IsBody}
+use Rattle.std.proofs.Common.{◌≡◌, ℕ, List, ◌∷◌, [], ◌++◌, true, false, refl, subst}
+use Rattle.ink_lex.specs.declared.token.Before.TheVariants.{NewLine}
+use Rattle.ink_parse.specs.FirstForm.{Spelled, tail}
 use Rattle.ink_parse.proofs.Body.{Reads, Reads-more, Reads-end, Reads-only, Reads-none}
 use Rattle.ink_parse.proofs.first_form.body.Goals as goal
 
@@ -11,9 +9,7 @@ returns-in_default-clause-refused c =
     let source = c.args.source.now in
     let rest = c.loop-rest.rest.now in
     let goes_on : Spelled tail rest → ⊥ = λ end. let told : false ≡ true = c.loop-rest-test.ensures.1 end in cc in
-    let R : PlainFault → Type 0 = RefusesAll (IsBody Anything source) in
-    subst R (sym c.not_of_first_form.ensures)
-    (refl, Reads-none source c.loop-rest.texts.items c.loop-rest.before rest goes_on c.in_default.ensures.none c.loop-rest.invariant)
+    (c.not_built.ensures, Reads-none source c.loop-rest.texts.items c.loop-rest.before rest goes_on c.in_default.ensures.none c.loop-rest.invariant)
 
 pub loop-rest-preserved : goal.loop-rest-preserved
 loop-rest-preserved c =

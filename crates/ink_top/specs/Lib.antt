@@ -1,0 +1,7 @@
+pub mod Calls
+pub mod Causes
+pub mod Commands
+pub mod Headline
+pub mod Runs
+pub mod Verdict
+pub mod World

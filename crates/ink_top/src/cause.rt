@@ -1,0 +1,68 @@
+//! Why a call ended: its cause, the status of the program, and what is told of it.
+ghost use Rattle.std.specs.Prelude.{◌≡◌, [], ◌∷◌, ◌++◌, IfOk};
+ghost use Rattle.ink_top.specs.Causes.{status_of, cause_text};
+
+use ink_base::Refusal;
+use itoa::Buffer;
+use std::alloc::{AllocError, Global};
+
+/// Why a call ended.
+#[derive(Debug, Drop)]
+pub enum Cause {
+    /// The run came to its end: each process waits for a message, and there is none.
+    Quiet,
+    /// The source breaks a rule.
+    Refused(Refusal),
+    /// No command has this word at its place, counted from 1.
+    Usage(u64),
+    /// The file could not be read.
+    ReadFault,
+    /// The output, or what is told of the cause, could not be written.
+    WriteFault,
+    /// There was no memory.
+    OutOfMemory,
+}
+
+impl Cause {
+    /// The exit status of the program.
+    pub fn status(&self) -> u8
+        ensures { result ≡ status_of self.now }
+    {
+        match self {
+            Cause::Quiet => 0,
+            Cause::Refused(_) => 1,
+            Cause::Usage(_) => 2,
+            Cause::ReadFault => 3,
+            Cause::WriteFault => 4,
+            Cause::OutOfMemory => 5,
+        }
+    }
+
+    /// What is told of the cause: nothing, or one line. `file` is the name of the file that was to be read.
+    pub fn text(&self, alloc: Global, file: &[u8]) -> Result<Vec<u8>, AllocError>
+        ensures { IfOk result (λ text. text.items ≡ cause_text self.now file.now) }
+    {
+        match self {
+            Cause::Quiet => Ok(Vec::new(alloc)),
+            Cause::Refused(refusal) => line(alloc, b"", refusal.text(alloc)?.bytes()),
+            Cause::Usage(number) => line(
+                alloc,
+                b"usage error at word ",
+                Buffer::new().format(*number).as_bytes(),
+            ),
+            Cause::ReadFault => line(alloc, b"cannot read ", file),
+            Cause::WriteFault => line(alloc, b"write fault", b""),
+            Cause::OutOfMemory => line(alloc, b"out of memory", b""),
+        }
+    }
+}
+
+/// One line of two parts.
+fn line(alloc: Global, front: &[u8], back: &[u8]) -> Result<Vec<u8>, AllocError>
+    ensures { IfOk result (λ text. text.items ≡ front.now ++ back.now ++ 10 ∷ []) }
+{
+    let mut text = Vec::from_slice(alloc, front)?;
+    text.extend_from_slice(back)?;
+    text.push(b'\n')?;
+    Ok(text)
+}
