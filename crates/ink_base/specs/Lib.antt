@@ -1,3 +1,5 @@
+pub mod Ident
 pub mod Journal
 pub mod Outside
 pub mod Refusal
+pub mod Token

@@ -6,15 +6,23 @@
 #![tactic(auto)]
 
 mod faults;
+mod ident;
+mod items;
 mod journal;
 mod outside;
 mod refusal;
 mod sure;
 mod text;
+mod token;
+mod value;
 
 pub use faults::Faults;
+pub use ident::{BorrowKind, ObjectId};
+pub use items::Items;
 pub use journal::Journal;
 pub use outside::{Failed, FileFault, Files, Gate, Sink, write_whole};
-pub use refusal::{Place, Refusal, Rule};
+pub use refusal::{JudgeFault, Place, Refusal, Rule};
 pub use sure::{OpenGate};
 pub use text::Text;
+pub use token::{Token, TokenKind};
+pub use value::Value;
