@@ -1,5 +1,11 @@
+pub mod Futures
 pub mod Ident
 pub mod Journal
+pub mod Limits
+pub mod Messages
+pub mod Numbered
 pub mod Outside
 pub mod Refusal
+pub mod Text
 pub mod Token
+pub mod Tree

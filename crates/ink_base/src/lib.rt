@@ -6,23 +6,29 @@
 #![tactic(auto)]
 
 mod faults;
+mod future;
 mod ident;
 mod items;
 mod journal;
+mod limits;
 mod outside;
 mod refusal;
+mod row;
 mod sure;
 mod text;
 mod token;
 mod value;
 
 pub use faults::Faults;
+pub use future::FutureState;
 pub use ident::{BorrowKind, ObjectId};
 pub use items::Items;
 pub use journal::Journal;
+pub use limits::{BadLimit, Limit, Limits};
 pub use outside::{Failed, FileFault, Files, Gate, Sink, write_whole};
 pub use refusal::{JudgeFault, Place, Refusal, Rule};
+pub use row::{Kind, Mode, Slot};
 pub use sure::{OpenGate};
-pub use text::Text;
+pub use text::{Text, TextFault};
 pub use token::{Token, TokenKind};
 pub use value::Value;
