@@ -1,3 +1,5 @@
+pub mod Actions
+pub mod Ends
 pub mod Futures
 pub mod Ident
 pub mod Journal
@@ -5,7 +7,9 @@ pub mod Limits
 pub mod Messages
 pub mod Numbered
 pub mod Outside
+pub mod Panics
 pub mod Refusal
+pub mod Rows
 pub mod Text
 pub mod Token
 pub mod Tree
