@@ -27,7 +27,7 @@ abbrev pub with_message : {V : Type 0} → Mailbox V → ℕ → ℕ → V → M
 with_message box sender method values =
     record {
       sent = box.sent + 1;
-      unread = box.unread ++ record { number = box.sent + 1; sender = sender; method = method; values = values } ∷ []
+      unread = box.unread ++ record { number = box.sent + 1; sender = sender; method = method; values = values } ∷ [];
     }
 
 -- a mailbox without its first message

@@ -99,3 +99,60 @@ impl<T> Items<T> {
         self.items.pop()
     }
 }
+
+#[cfg(test)]
+mod tests {
+    use super::*;
+    use crate::value::Value;
+    use std::test::Fail;
+
+    /// What a crate above has: a struct with such lists in it.
+    #[derive(Debug, Drop)]
+    struct Frame {
+        registers: Items<Value>,
+        lines: Items<u32>,
+    }
+
+    /// Empties a register, and gives what it held.
+    fn move_out(frame: &mut Frame, register: u64) -> Value
+        requires { register < length frame.old.registers }
+        ensures { frame.new ≡ record frame.old { registers = slice_set frame.old.registers register Value.Empty } }
+    {
+        frame.registers.set(register, Value::Empty)
+    }
+
+    #[test]
+    fn lists_at_their_ends(rt: HostRuntime) -> Result<(), Fail> {
+        let mut list = Items::new(rt.alloc());
+        assert!(rt; list.is_empty());
+        assert_eq!(rt; list.get(0), None);
+        assert_eq!(rt; list.pop(), None);
+        for number in [7u32, 8, 9] {
+            list.push(number)?;
+        }
+        assert_eq!(rt; list.len(), 3);
+        assert_eq!(rt; list.get(2).copied(), Some(9));
+        assert_eq!(rt; list.get(3), None);
+        assert_eq!(rt; list.set(0, 6), 7);
+        assert_eq!(rt; list.as_slice(), [6, 8, 9].as_slice());
+        assert_eq!(rt; list.pop(), Some(9));
+        assert_eq!(rt; list.len(), 2);
+        Ok(())
+    }
+
+    #[test]
+    fn lists_of_values(rt: HostRuntime) -> Result<(), Fail> {
+        let registers = Items::of(vec![in rt.alloc(); Value::Int(4), Value::Nil]?);
+        let mut frame = Frame {
+            registers,
+            lines: Items::new(rt.alloc()),
+        };
+        assert!(rt; frame.lines.is_empty());
+        assert!(rt; frame.registers.len() > 0);
+        let moved = move_out(&mut frame, 0);
+        assert!(rt; matches!(moved, Value::Int(4)));
+        assert!(rt; matches!(frame.registers.get(0), Some(Value::Empty)));
+        assert!(rt; matches!(frame.registers.get(1), Some(Value::Nil)));
+        Ok(())
+    }
+}

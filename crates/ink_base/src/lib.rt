@@ -28,7 +28,7 @@ pub use limits::{BadLimit, Limit, Limits};
 pub use outside::{Failed, FileFault, Files, Gate, Sink, write_whole};
 pub use refusal::{JudgeFault, Place, Refusal, Rule};
 pub use row::{Kind, Mode, Slot};
-pub use sure::{OpenGate};
+pub use sure::OpenGate;
 pub use text::{Text, TextFault};
 pub use token::{Token, TokenKind};
 pub use value::Value;

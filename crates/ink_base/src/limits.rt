@@ -214,3 +214,84 @@ impl Limits {
         self.numbers[limit.place()]
     }
 }
+
+#[cfg(test)]
+mod tests {
+    use super::*;
+
+    /// Each limit with its option, its default and its greatest number.
+    fn table() -> [(Limit, &'static str, u64, u64); 14] {
+        [
+            (Limit::Source, "--max-source", 1048576, 16777216),
+            (Limit::Height, "--max-height", 200, 200),
+            (Limit::Frames, "--max-frames", 4096, 65536),
+            (Limit::Objects, "--max-objects", 1048576, 16777216),
+            (Limit::Serial, "--max-serial", 1 << 40, 1 << 62),
+            (Limit::Array, "--max-array", 1048576, 16777216),
+            (Limit::Text, "--max-text", 1048576, 16777216),
+            (Limit::Processes, "--max-processes", 65536, 1048576),
+            (Limit::Mailbox, "--max-mailbox", 1048576, 16777216),
+            (Limit::Futures, "--max-futures", 1048576, 16777216),
+            (Limit::Events, "--max-events", 16777216, 67108864),
+            (Limit::Local, "--max-local", 1 << 62, 1 << 62),
+            (Limit::Slice, "--slice", 1000, 1000000000),
+            (Limit::Workers, "--workers", 4, 64),
+        ]
+    }
+
+    #[test]
+    fn ranges(rt: HostRuntime) {
+        let mut place = 0;
+        for (limit, option, default, greatest) in table() {
+            assert_eq!(rt; limit.place(), place);
+            assert_eq!(rt; limit.option(), option);
+            assert_eq!(rt; Limits::defaults().get(limit), default, "{option}");
+            for (number, is_allowed) in [
+                (0, false),
+                (1, true),
+                (greatest, true),
+                (greatest.wrapping_add(1), false),
+            ] {
+                let mut numbers = [1; 14];
+                assert!(rt; place < 14);
+                numbers[place] = number;
+                match Limits::new(numbers) {
+                    Ok(limits) => {
+                        assert!(rt; is_allowed, "{option} {number}");
+                        assert_eq!(rt; limits.get(limit), number);
+                    }
+                    Err(BadLimit(k)) => {
+                        assert!(rt; !is_allowed, "{option} {number}");
+                        assert_eq!(rt; k as usize, place.wrapping_add(1));
+                    }
+                }
+            }
+            place = place.wrapping_add(1);
+        }
+    }
+
+    #[test]
+    fn first_out_of_range(rt: HostRuntime) {
+        let mut numbers = [1; 14];
+        numbers[6] = 0;
+        numbers[13] = 65;
+        assert_eq!(rt; Limits::new(numbers).err(), Some(BadLimit(7)));
+    }
+
+    #[test]
+    fn panic_texts(rt: HostRuntime) {
+        for (limit, text) in [
+            (Limit::Frames, "limit reached: frames"),
+            (Limit::Objects, "limit reached: objects"),
+            (Limit::Serial, "limit reached: serial"),
+            (Limit::Array, "limit reached: array"),
+            (Limit::Text, "limit reached: text"),
+            (Limit::Processes, "limit reached: processes"),
+            (Limit::Mailbox, "limit reached: mailbox"),
+            (Limit::Futures, "limit reached: futures"),
+        ] {
+            assert_eq!(rt; limit.panic_text(), Some(text));
+        }
+        assert!(rt; Limit::Source.panic_text().is_none());
+    }
+}

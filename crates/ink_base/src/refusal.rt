@@ -205,7 +205,10 @@ impl Refusal {
         ensures { IfOk result (λ text. text ≡ refusal_text self.now) }
     {
         let Place { line, column, .. } = self.place;
-        let mut told = format!(in alloc; "{} at line {line}, column {column}", self.rule)?.into_bytes();
+        let mut told = format!(in alloc;
+            "{} at line {line}, column {column}",
+            self.rule
+        )?.into_bytes();
         if let Some(detail) = &self.detail {
             told.extend_from_slice(b": ")?;
             told.extend_from_slice(detail.bytes())?;
@@ -239,5 +242,114 @@ impl From<AllocError> for JudgeFault {
 
     fn from(_: AllocError) -> JudgeFault {
         JudgeFault::OutOfMemory
+    }
+}
+
+#[cfg(test)]
+mod tests {
+    use super::*;
+    use std::test::Fail;
+
+    /// Each rule as a user is told it.
+    fn table() -> [(Rule, &'static str); 34] {
+        [
+            (Rule::NotUtf8, "E01 NotUtf8"),
+            (Rule::BadToken, "E02 BadToken"),
+            (Rule::IntTooWide, "E03 IntTooWide"),
+            (Rule::UnendedText, "E04 UnendedText"),
+            (Rule::Unexpected, "E05 Unexpected"),
+            (Rule::TooDeep, "E06 TooDeep"),
+            (Rule::SourceTooLong, "E07 SourceTooLong"),
+            (Rule::UnknownName, "E10 UnknownName"),
+            (Rule::DuplicateName, "E11 DuplicateName"),
+            (Rule::UnknownImport, "E12 UnknownImport"),
+            (Rule::NoMain, "E13 NoMain"),
+            (Rule::TypeArity, "E20 TypeArity"),
+            (Rule::UniArgument, "E21 UniArgument"),
+            (Rule::MissingMethod, "E22 MissingMethod"),
+            (Rule::WrongSignature, "E23 WrongSignature"),
+            (Rule::DuplicateImpl, "E24 DuplicateImpl"),
+            (Rule::BoundUnmet, "E25 BoundUnmet"),
+            (Rule::AsyncNotSendable, "E26 AsyncNotSendable"),
+            (Rule::WrongType, "E30 WrongType"),
+            (Rule::ArgumentCount, "E31 ArgumentCount"),
+            (Rule::UnknownMember, "E32 UnknownMember"),
+            (Rule::NotMutable, "E33 NotMutable"),
+            (Rule::NeedsAnnotation, "E34 NeedsAnnotation"),
+            (Rule::JumpOutside, "E35 JumpOutside"),
+            (Rule::MissingArm, "E36 MissingArm"),
+            (Rule::BadPattern, "E38 BadPattern"),
+            (Rule::MovedUse, "E40 MovedUse"),
+            (Rule::MoveOutOfBorrow, "E41 MoveOutOfBorrow"),
+            (Rule::HiddenInRecover, "E50 HiddenInRecover"),
+            (Rule::BorrowOfUni, "E51 BorrowOfUni"),
+            (Rule::CrossingArgument, "E52 CrossingArgument"),
+            (Rule::CrossingResult, "E53 CrossingResult"),
+            (Rule::RecoverResult, "E54 RecoverResult"),
+            (Rule::JumpOutOfRecover, "E55 JumpOutOfRecover"),
+        ]
+    }
+
+    #[test]
+    fn tells_rules(rt: HostRuntime) -> Result<(), Fail> {
+        for (rule, text) in table() {
+            assert_eq!(rt; format!(in rt.alloc(); "{rule}")?.as_str(), text);
+            assert_eq!(rt;
+                format!(in rt.alloc(); "E{:02} ", rule.code())?.as_bytes(),
+                &text.as_bytes()[..4]
+            );
+        }
+        Ok(())
+    }
+
+    fn at(byte: u32, rule: Rule) -> Refusal {
+        Refusal {
+            rule,
+            place: Place {
+                line: 1,
+                column: 1,
+                byte,
+            },
+            detail: None,
+        }
+    }
+
+    #[test]
+    fn least_byte_and_then_least_code(rt: HostRuntime) {
+        for (one, other, is_before) in [
+            (at(3, Rule::BadToken), at(4, Rule::NotUtf8), true),
+            (at(4, Rule::BadToken), at(3, Rule::NotUtf8), false),
+            (at(3, Rule::BadToken), at(3, Rule::IntTooWide), true),
+            (at(3, Rule::IntTooWide), at(3, Rule::BadToken), false),
+            (at(3, Rule::BadToken), at(3, Rule::BadToken), false),
+        ] {
+            assert_eq!(rt; one.is_before(&other), is_before);
+        }
+    }
+
+    #[test]
+    fn tells_refusals(rt: HostRuntime) -> Result<(), Fail> {
+        let mut refusal = Refusal {
+            rule: Rule::MovedUse,
+            place: Place {
+                line: 11,
+                column: 21,
+                byte: 200,
+            },
+            detail: None,
+        };
+        assert!(rt;
+            refusal
+                .text(rt.alloc())?
+                .is(b"E40 MovedUse at line 11, column 21")
+        );
+        refusal.rule = Rule::MissingArm;
+        refusal.detail = Some(Text::of(rt.alloc(), b"Some(_)")?);
+        assert!(rt;
+            refusal
+                .text(rt.alloc())?
+                .is(b"E36 MissingArm at line 11, column 21: Some(_)")
+        );
+        Ok(())
     }
 }

@@ -91,3 +91,26 @@ impl From<AllocError> for TextFault {
         TextFault::OutOfMemory
     }
 }
+
+#[cfg(test)]
+mod tests {
+    use super::*;
+    use std::test::Fail;
+
+    #[test]
+    fn joins_up_to_the_limit(rt: HostRuntime) -> Result<(), Fail> {
+        let one = Text::of(rt.alloc(), b"ab")?;
+        let other = Text::of(rt.alloc(), b"cde")?;
+        for (most, want) in [
+            (5, None),
+            (4, Some(TextFault::TooLong(5))),
+            (0, Some(TextFault::TooLong(5))),
+        ] {
+            match one.joined(rt.alloc(), &other, most) {
+                Ok(text) => assert!(rt; want.is_none() && text.is(b"abcde")),
+                Err(fault) => assert_eq!(rt; Some(fault), want),
+            }
+        }
+        Ok(())
+    }
+}

@@ -52,3 +52,19 @@ impl Token {
         &source[self.start as usize..self.end as usize]
     }
 }
+
+#[cfg(test)]
+mod tests {
+    use super::*;
+
+    #[test]
+    fn takes_its_bytes(rt: HostRuntime) {
+        let token = Token {
+            kind: TokenKind::Name,
+            start: 4,
+            end: 6,
+            new_line: false,
+        };
+        assert_eq!(rt; token.text(b"let ab"), b"ab".as_slice());
+    }
+}
