@@ -1,5 +1,5 @@
 -- What goes into a sink in two pieces goes in as one.
-use Rattle.std.proofs.Common.{◌≡◌, ℕ, ◌+◌, ◌-◌, List, [], ◌∷◌, ◌++◌, length, take, drop, Option, None, Some, refl, ap, arith, append_assoc, sym, ◌∙◌, length-drop}
+use Rattle.std.proofs.Common.{◌≡◌, ℕ, ◌+◌, ◌-◌, List, ◌++◌, length, take, drop, Option, None, Some, refl, ap, append_assoc, sym, ◌∙◌, length-drop}
 use Rattle.std.proofs.Math.Seq.{take-add, take-length}
 use Rattle.ink_base.specs.Outside.{appended}
 

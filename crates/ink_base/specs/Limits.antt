@@ -1,4 +1,4 @@
-use Rattle.std.specs.Prelude.{ℕ, ◌+◌, ◌-◌, ◌<◌, ◌≤◌, List, [], ◌∷◌, length, codes, slice_index, EachIndex, Option, None, Some}
+use Rattle.std.specs.Prelude.{ℕ, ◌+◌, ◌-◌, ◌^◌, ◌<◌, ◌≤◌, List, [], ◌∷◌, length, codes, slice_index, EachIndex, Option, None, Some}
 use Rattle.ink_base.specs.declared.limits.Limit.{Limit}
 use Rattle.ink_base.specs.declared.limits.Limit.TheVariants.{Source, Height, Frames, Objects, Serial, Array, Text, Processes, Mailbox, Futures, Events, Local, Slice, Workers}
 
@@ -21,11 +21,11 @@ place_of Workers = 13
 
 -- the greatest number that each limit may have, in their order; the least is 1
 abbrev pub greatest_numbers : List ℕ
-greatest_numbers = 16777216 ∷ 200 ∷ 65536 ∷ 16777216 ∷ 4611686018427387904 ∷ 16777216 ∷ 16777216 ∷ 1048576 ∷ 16777216 ∷ 16777216 ∷ 67108864 ∷ 4611686018427387904 ∷ 1000000000 ∷ 64 ∷ []
+greatest_numbers = 16777216 ∷ 200 ∷ 65536 ∷ 16777216 ∷ 2 ^ 62 ∷ 16777216 ∷ 16777216 ∷ 1048576 ∷ 16777216 ∷ 16777216 ∷ 67108864 ∷ 2 ^ 62 ∷ 1000000000 ∷ 64 ∷ []
 
 -- the number of each limit where none is given
 abbrev pub default_numbers : List ℕ
-default_numbers = 1048576 ∷ 200 ∷ 4096 ∷ 1048576 ∷ 1099511627776 ∷ 1048576 ∷ 1048576 ∷ 65536 ∷ 1048576 ∷ 1048576 ∷ 16777216 ∷ 4611686018427387904 ∷ 1000 ∷ 4 ∷ []
+default_numbers = 1048576 ∷ 200 ∷ 4096 ∷ 1048576 ∷ 2 ^ 40 ∷ 1048576 ∷ 1048576 ∷ 65536 ∷ 1048576 ∷ 1048576 ∷ 16777216 ∷ 2 ^ 62 ∷ 1000 ∷ 4 ∷ []
 
 -- a limit's number among the numbers of all
 abbrev pub limit_of : Limit → List ℕ → ℕ
