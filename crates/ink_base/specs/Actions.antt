@@ -21,17 +21,22 @@ pub data Action (V : Type 0) : Type 0 where
   Panic : (text : List ℕ) → Action V
 
 -- what the processes of a run share: a mailbox for each of them, the futures, and what was printed
-pub record Shared (V : Type 0) : Type 0 where
+pub record SharedState (V : Type 0) : Type 0 where
   pub mail : Mail V
   pub futures : Futures V
   pub output : List ℕ
+
+-- what they share when a run begins: one process, which has a message from no process
+abbrev pub opening : {V : Type 0} → ℕ → V → SharedState V
+opening method values =
+    record { mail = after_send (empty_mailbox ∷ []) 1 0 method values; futures = []; output = [] }
 
 abbrev pub has_some : {X : Type 0} → List X → Bool
 has_some [] = false
 has_some (x ∷ xs) = true
 
 -- whether an action of a process can be made now: a take wants a message, and a get a future that is set or broken
-abbrev pub is_enabled : {V : Type 0} → Action V → ℕ → Shared V → Bool
+abbrev pub is_enabled : {V : Type 0} → Action V → ℕ → SharedState V → Bool
 is_enabled Take process shared = has_some (unread_of shared.mail process)
 is_enabled (Print text) process shared = true
 is_enabled (Spawn kind fields) process shared = true
@@ -48,7 +53,7 @@ reached limit count limits = if nat_le (limit_of limit limits) count then panic_
 
 -- with which text an enabled action is made as a panic in its place: a spawn, a send or a new future at its limit, and
 -- a get of a broken future
-abbrev pub panic_of : {V : Type 0} → Action V → Shared V → List ℕ → Option (List ℕ)
+abbrev pub panic_of : {V : Type 0} → Action V → SharedState V → List ℕ → Option (List ℕ)
 panic_of Take shared limits = None
 panic_of (Print text) shared limits = None
 panic_of (Spawn kind fields) shared limits = reached limit.Processes (length shared.mail) limits
@@ -65,11 +70,11 @@ panic_or None action = action
 panic_or (Some text) action = Panic text
 
 -- an enabled action as it is made
-abbrev pub as_made : {V : Type 0} → Action V → Shared V → List ℕ → Action V
+abbrev pub as_made : {V : Type 0} → Action V → SharedState V → List ℕ → Action V
 as_made action shared limits = panic_or (panic_of action shared limits) action
 
 -- what the processes share after an action that a process makes
-abbrev pub after_action : {V : Type 0} → Action V → ℕ → Shared V → Shared V
+abbrev pub after_action : {V : Type 0} → Action V → ℕ → SharedState V → SharedState V
 after_action Take process shared = record shared { mail = after_take shared.mail process }
 after_action (Print text) process shared = record shared { output = shared.output ++ text ++ 10 ∷ [] }
 after_action (Spawn kind fields) process shared = record shared { mail = shared.mail ++ empty_mailbox ∷ [] }
