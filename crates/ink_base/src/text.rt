@@ -1,5 +1,6 @@
 //! A text: bytes that are kept together and never changed.
-ghost use Rattle.std.specs.Prelude.{◌≡◌, ◌↔◌, IfOk, IsTrue};
+ghost use Rattle.std.specs.Prelude.{◌≡◌, ◌+◌, ◌<◌, ◌≤◌, ◌++◌, ◌↔◌, length, IfErr, IfOk, IsTrue, OnOk};
+ghost use Rattle.ink_base.specs.Text.{TellsLength};
 
 use std::alloc::{AllocError, Global};
 use std::marker::Model;
@@ -54,5 +55,62 @@ impl Text {
         ensures { IsTrue result ↔ (self.now ≡ bytes.now) }
     {
         self.bytes.as_slice() == bytes
+    }
+    /// The bytes of this text and then those of another.
+    pub fn joined(&self, alloc: Global, other: &Text, most: u64) -> Result<Text, TextFault>
+        ensures ok { IfOk result (λ text. text ≡ self.now ++ other.now) }
+        ensures fits { OnOk result (length self.now + length other.now ≤ most) }
+        ensures fault { IfErr result (TellsLength (length self.now + length other.now) most) }
+    {
+        let length = self.bytes.len() as u64 + other.bytes.len() as u64;
+        if length > most {
+            return Err(TextFault::TooLong(length));
+        }
+        let mut bytes = Vec::with_capacity(alloc, length as usize)?;
+        bytes.extend_from_slice(self.bytes())?;
+        bytes.extend_from_slice(other.bytes())?;
+        Ok(Text { bytes })
+    }
+}
+
+/// Why two texts aren't joined.
+#[derive(Clone, Copy, Debug, PartialEq, Eq)]
+pub enum TextFault {
+    /// The joined text would have so many bytes, which is more than were allowed.
+    TooLong(u64),
+    /// It wouldn't be too long, and there was no memory for it.
+    OutOfMemory,
+}
+
+impl From<AllocError> for TextFault {
+    ghost use Rattle.ink_base.specs.declared.text.TextFault.{TextFault};
+
+    ghost from_gives = { λ _ fault. fault ≡ TextFault.OutOfMemory };
+
+    fn from(_: AllocError) -> TextFault {
+        TextFault::OutOfMemory
+    }
+}
+
+#[cfg(test)]
+mod tests {
+    use super::*;
+    use std::test::Fail;
+
+    #[test]
+    fn joins_up_to_the_limit(rt: HostRuntime) -> Result<(), Fail> {
+        let one = Text::of(rt.alloc(), b"ab")?;
+        let other = Text::of(rt.alloc(), b"cde")?;
+        for (most, want) in [
+            (5, None),
+            (4, Some(TextFault::TooLong(5))),
+            (0, Some(TextFault::TooLong(5))),
+        ] {
+            match one.joined(rt.alloc(), &other, most) {
+                Ok(text) => assert!(rt; want.is_none() && text.is(b"abcde")),
+                Err(fault) => assert_eq!(rt; Some(fault), want),
+            }
+        }
+        Ok(())
     }
 }

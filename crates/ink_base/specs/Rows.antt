@@ -1,0 +1,97 @@
+-- The table of the built-in methods. The rows are numbered from 0, in this order.
+use Rattle.std.specs.Prelude.{ℕ, Bool, true, false, List, [], ◌∷◌, codes}
+use Rattle.ink_base.specs.declared.limits.Limit.{Limit}
+use Rattle.ink_base.specs.declared.limits.Limit.TheVariants as limit
+use Rattle.ink_base.specs.declared.row.Kind.{Kind}
+use Rattle.ink_base.specs.declared.row.Kind.TheVariants as kind
+use Rattle.ink_base.specs.declared.row.Mode.{Mode}
+use Rattle.ink_base.specs.declared.row.Mode.TheVariants.{R, M, V, S}
+use Rattle.ink_base.specs.declared.row.Slot.{Slot}
+use Rattle.ink_base.specs.declared.row.Slot.TheVariants.{Int, Bool as Truth, Str, Nil, Stdout, Item, Pair, OptItem, OptRef, OptMut}
+
+-- the panics of rows
+pub data RowPanic : Type 0 where
+  Overflow : RowPanic
+  DivisionByZero : RowPanic
+  ShiftOutOfRange : RowPanic
+  BadIndex : RowPanic
+  NoValue : RowPanic
+  OwnershipCycle : RowPanic
+  BrokenFuture : RowPanic
+  CannotDrop : RowPanic
+  LimitReached : Limit → RowPanic
+
+-- a built-in method: its name, the type that has it and how it takes the receiver, its operands and its result, whether
+-- the result is a new object that nothing else names, whether it may hold a borrow of the receiver, and the panics that
+-- it or its action may end in, in the order in which they are judged
+pub record Row : Type 0 where
+  pub name : List ℕ
+  pub receiver : Kind
+  pub mode : Mode
+  pub operands : List Slot
+  pub result : Slot
+  pub fresh : Bool
+  pub borrows : Bool
+  pub panics : List RowPanic
+
+-- a row whose result is neither fresh nor a borrow
+abbrev pub plain : Kind → Mode → List ℕ → List Slot → Slot → List RowPanic → Row
+plain receiver mode name operands result panics =
+    record { name = name; receiver = receiver; mode = mode; operands = operands; result = result; fresh = false; borrows = false; panics = panics }
+
+-- a row that makes an Option, which may hold a borrow of the receiver's parts
+abbrev pub fresh_option : Bool → Kind → Mode → List ℕ → List Slot → Slot → Row
+fresh_option borrows receiver mode name operands result =
+    record { name = name; receiver = receiver; mode = mode; operands = operands; result = result; fresh = true; borrows = borrows; panics = LimitReached limit.Objects ∷ LimitReached limit.Serial ∷ [] }
+
+unfoldable pub rows : List Row
+rows =
+    plain kind.Int R (codes "+") (Int ∷ []) Int (Overflow ∷ [])
+    ∷ plain kind.Int R (codes "-") (Int ∷ []) Int (Overflow ∷ [])
+    ∷ plain kind.Int R (codes "*") (Int ∷ []) Int (Overflow ∷ [])
+    ∷ plain kind.Int R (codes "/") (Int ∷ []) Int (DivisionByZero ∷ Overflow ∷ [])
+    ∷ plain kind.Int R (codes "%") (Int ∷ []) Int (DivisionByZero ∷ [])
+    ∷ plain kind.Int R (codes "==") (Int ∷ []) Truth []
+    ∷ plain kind.Int R (codes "!=") (Int ∷ []) Truth []
+    ∷ plain kind.Int R (codes "<") (Int ∷ []) Truth []
+    ∷ plain kind.Int R (codes "<=") (Int ∷ []) Truth []
+    ∷ plain kind.Int R (codes ">") (Int ∷ []) Truth []
+    ∷ plain kind.Int R (codes ">=") (Int ∷ []) Truth []
+    ∷ plain kind.Int R (codes "&") (Int ∷ []) Int []
+    ∷ plain kind.Int R (codes "|") (Int ∷ []) Int []
+    ∷ plain kind.Int R (codes "^") (Int ∷ []) Int []
+    ∷ plain kind.Int R (codes "<<") (Int ∷ []) Int (ShiftOutOfRange ∷ [])
+    ∷ plain kind.Int R (codes ">>") (Int ∷ []) Int (ShiftOutOfRange ∷ [])
+    ∷ plain kind.Int R (codes "to_string") [] Str []
+    ∷ plain kind.Bool R (codes "==") (Truth ∷ []) Truth []
+    ∷ plain kind.Bool R (codes "!=") (Truth ∷ []) Truth []
+    ∷ plain kind.Bool R (codes "false?") [] Truth []
+    ∷ plain kind.Bool R (codes "to_string") [] Str []
+    ∷ plain kind.Str R (codes "+") (Str ∷ []) Str (LimitReached limit.Text ∷ [])
+    ∷ plain kind.Str R (codes "==") (Str ∷ []) Truth []
+    ∷ plain kind.Str R (codes "!=") (Str ∷ []) Truth []
+    ∷ plain kind.Str R (codes "size") [] Int []
+    ∷ plain kind.Str R (codes "empty?") [] Truth []
+    ∷ plain kind.Str R (codes "byte") (Int ∷ []) Int (BadIndex ∷ [])
+    ∷ plain kind.Str R (codes "starts_with?") (Str ∷ []) Truth []
+    ∷ plain kind.Str R (codes "to_string") [] Str []
+    ∷ plain kind.Array R (codes "size") [] Int []
+    ∷ plain kind.Array R (codes "empty?") [] Truth []
+    ∷ plain kind.Array M (codes "push") (Item ∷ []) Nil (LimitReached limit.Array ∷ OwnershipCycle ∷ [])
+    ∷ fresh_option false kind.Array M (codes "pop") [] OptItem
+    ∷ fresh_option true kind.Array R (codes "get") (Int ∷ []) OptRef
+    ∷ fresh_option true kind.Array M (codes "get_mut") (Int ∷ []) OptMut
+    ∷ plain kind.Array M (codes "set") (Int ∷ Item ∷ []) Nil (BadIndex ∷ OwnershipCycle ∷ [])
+    ∷ plain kind.Array M (codes "swap") (Int ∷ Item ∷ []) Item (BadIndex ∷ OwnershipCycle ∷ [])
+    ∷ plain kind.Array M (codes "clear") [] Nil []
+    ∷ plain kind.Option R (codes "some?") [] Truth []
+    ∷ plain kind.Option R (codes "none?") [] Truth []
+    ∷ plain kind.Option V (codes "get") [] Item (CannotDrop ∷ NoValue ∷ [])
+    ∷ fresh_option true kind.Option R (codes "as_ref") [] OptRef
+    ∷ fresh_option true kind.Option M (codes "as_mut") [] OptMut
+    ∷ plain kind.Future V (codes "get") [] Item (BrokenFuture ∷ [])
+    ∷ plain kind.Promise V (codes "set") (Item ∷ []) Nil []
+    ∷ plain kind.Future S (codes "new") [] Pair (LimitReached limit.Futures ∷ LimitReached limit.Objects ∷ LimitReached limit.Serial ∷ [])
+    ∷ plain kind.Stdout R (codes "print") (Str ∷ []) Nil []
+    ∷ plain kind.Stdout S (codes "new") [] Stdout (LimitReached limit.Objects ∷ LimitReached limit.Serial ∷ [])
+    ∷ []
