@@ -4,7 +4,7 @@ ghost use Rattle.ink_parse.specs.FirstForm.{IsFirstForm, Refuses, RefusesAll, Sp
 ghost use Rattle.ink_parse.specs.Reading.{Follows, FollowsNowhere, Prints, PrintsNothing, IsBody};
 
 use crate::fault::PlainFault;
-use crate::tokens::{CALL, CLOSE, HEAD, TAIL};
+use crate::tokens::{CALL, CLOSE, HEAD, STDOUT, TAIL};
 use ink_base::{Place, Refusal, Rule, Text};
 use ink_lex::{Before, Token, is_last_gap, take, take_text};
 use std::alloc::Global;
@@ -42,13 +42,11 @@ fn statement(source: &[u8], before: Before) -> Option<(&[u8], &[u8])>
     ensures none { IfNone result (PrintsNothing before source.now) }
     ensures shorter { IfSome result (λ found. length found.1.now < length source.now) }
 {
-    let rest = take(
-        source,
-        &Token {
-            before,
-            spelling: b"Stdout",
-        },
-    )?;
+    let first = Token {
+        before,
+        spelling: STDOUT,
+    };
+    let rest = take(source, &first)?;
     let rest = skip(rest, &CALL)?;
     let (text, rest) = take_text(rest)?;
     let rest = take(rest, &CLOSE)?;

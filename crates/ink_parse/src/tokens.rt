@@ -1,6 +1,9 @@
 //! The tokens of a module of the first form, in order, and what the gap before each has to be.
 use ink_lex::{Before, Token};
 
+/// The name that is imported, and begins a statement.
+pub(crate) const STDOUT: &[u8] = b"Stdout";
+
 /// The tokens before the statements.
 pub(crate) const HEAD: [Token; 15] = [
     Token {
@@ -25,7 +28,7 @@ pub(crate) const HEAD: [Token; 15] = [
     },
     Token {
         before: Before::Anything,
-        spelling: b"Stdout",
+        spelling: STDOUT,
     },
     Token {
         before: Before::Anything,
