@@ -11,5 +11,5 @@ appended-appended (Some bytes) front back = ap Some (append_assoc bytes front ba
 pub take-take_drop : (i n : ℕ) (xs : List ℕ) → take i xs ++ take n (take (length xs - i) (drop i xs)) ≡ take (i + n) xs
 take-take_drop i n xs =
     let rest : take (length xs - i) (drop i xs) ≡ drop i xs =
-      ap (λ n. take n (drop i xs)) (sym (length-drop i xs)) ∙ take-length (drop i xs) in
+    ap (λ n. take n (drop i xs)) (sym (length-drop i xs)) ∙ take-length (drop i xs) in
     rw rest (sym (take-add i n xs))

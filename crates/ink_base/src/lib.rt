@@ -14,5 +14,5 @@ mod text;
 pub use journal::Journal;
 pub use outside::{Failed, FileFault, Files, Gate, Sink, write_whole};
 pub use refusal::{Place, Refusal, Rule};
-pub use sure::{OpenGate};
+pub use sure::OpenGate;
 pub use text::Text;

@@ -56,7 +56,10 @@ impl Refusal {
         ensures { IfOk result (λ text. text ≡ refusal_text self.now) }
     {
         let Place { line, column, .. } = self.place;
-        let mut told = format!(in alloc; "{} at line {line}, column {column}", self.rule)?.into_bytes();
+        let mut told = format!(in alloc;
+            "{} at line {line}, column {column}",
+            self.rule
+        )?.into_bytes();
         if let Some(detail) = &self.detail {
             told.extend_from_slice(b": ")?;
             told.extend_from_slice(detail.bytes())?;

@@ -16,5 +16,5 @@ loop-written-preserved g c =
           ∙ ap (λ s. appended s (take sent (take (length bytes - at) (drop at bytes)))) c.loop-written.invariant.contents
           ∙ appended-appended before (take at bytes) (take sent (take (length bytes - at) (drop at bytes)))
           ∙ ap (appended before) (take-take_drop at sent bytes);
-      faults = c.in_ok-written.ensures.ok ∙ c.loop-written.invariant.faults
+      faults = c.in_ok-written.ensures.ok ∙ c.loop-written.invariant.faults;
     }

@@ -7,7 +7,7 @@ abbrev pub invariant-loop-written : goal.invariant-loop-written
 invariant-loop-written g l = record {
   within : l.written ≤ length l.bytes;
   contents : g.K.Sink.contents l.sink ≡ appended (g.K.Sink.contents l.fn.sink) (take l.written l.bytes);
-  faults : g.K.Sink.faults l.sink ≡ g.K.Sink.faults l.fn.sink
+  faults : g.K.Sink.faults l.sink ≡ g.K.Sink.faults l.fn.sink;
 }
 
 abbrev pub decreases-loop-written : goal.decreases-loop-written
