@@ -4,7 +4,7 @@ use Rattle.ink_lex.specs.declared.gap.Ahead.{Ahead}
 use Rattle.ink_lex.specs.declared.gap.Ahead.TheVariants.{Token, End, Fault}
 use Rattle.ink_lex.specs.declared.gap.State.{State}
 use Rattle.ink_lex.specs.declared.gap.State.TheVariants.{Between, InComment}
-use Rattle.ink_lex.specs.Gap.{IsBlank, IsGap, IsLastGap, IsFirm}
+use Rattle.ink_lex.specs.Gap.{line_feed, comment_sign, IsBlank, IsGap, IsLastGap, IsFirm}
 
 -- a gap stands at the front, and behind it a byte that begins no gap
 abbrev pub HasFirm : List ℕ → Type 0
@@ -20,9 +20,9 @@ IsAhead source Fault = (IsLastGap source → ⊥) × (HasFirm source → ⊥)
 -- a byte of a gap takes its reader from one state to the next
 abbrev pub Moves : State → ℕ → State → Type 0
 Moves Between byte Between = IsBlank byte
-Moves Between byte InComment = byte ≡ 35
-Moves InComment byte Between = byte ≡ 10
-Moves InComment byte InComment = (byte < 128) × (byte ≢ 10)
+Moves Between byte InComment = byte ≡ comment_sign
+Moves InComment byte Between = byte ≡ line_feed
+Moves InComment byte InComment = (byte < 128) × (byte ≢ line_feed)
 
 -- no gap goes on with the byte
 abbrev pub Stops : State → ℕ → Type 0

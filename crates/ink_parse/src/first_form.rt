@@ -4,115 +4,13 @@ ghost use Rattle.ink_parse.specs.FirstForm.{IsFirstForm, Refuses, RefusesAll, Sp
 ghost use Rattle.ink_parse.specs.Reading.{Follows, FollowsNowhere, Prints, PrintsNothing, IsBody};
 
 use crate::fault::PlainFault;
+use crate::tokens::{CALL, CLOSE, HEAD, STDOUT, TAIL};
 use ink_base::{Place, Refusal, Rule, Text};
 use ink_lex::{Before, Token, is_last_gap, take, take_text};
 use std::alloc::Global;
 
-/// The tokens before the statements.
-const HEAD: [Token; 15] = [
-    Token {
-        before: Before::Anything,
-        spelling: b"import",
-    },
-    Token {
-        before: Before::Apart,
-        spelling: b"std",
-    },
-    Token {
-        before: Before::Anything,
-        spelling: b".",
-    },
-    Token {
-        before: Before::Anything,
-        spelling: b"stdio",
-    },
-    Token {
-        before: Before::Anything,
-        spelling: b"(",
-    },
-    Token {
-        before: Before::Anything,
-        spelling: b"Stdout",
-    },
-    Token {
-        before: Before::Anything,
-        spelling: b")",
-    },
-    Token {
-        before: Before::Anything,
-        spelling: b"type",
-    },
-    Token {
-        before: Before::Apart,
-        spelling: b"async",
-    },
-    Token {
-        before: Before::Apart,
-        spelling: b"Main",
-    },
-    Token {
-        before: Before::Anything,
-        spelling: b"{",
-    },
-    Token {
-        before: Before::Anything,
-        spelling: b"fn",
-    },
-    Token {
-        before: Before::Apart,
-        spelling: b"async",
-    },
-    Token {
-        before: Before::Apart,
-        spelling: b"main",
-    },
-    Token {
-        before: Before::Anything,
-        spelling: b"{",
-    },
-];
-
-/// The tokens of a statement between `Stdout` and the text.
-const CALL: [Token; 5] = [
-    Token {
-        before: Before::Anything,
-        spelling: b".",
-    },
-    Token {
-        before: Before::Anything,
-        spelling: b"new",
-    },
-    Token {
-        before: Before::Anything,
-        spelling: b".",
-    },
-    Token {
-        before: Before::Anything,
-        spelling: b"print",
-    },
-    Token {
-        before: Before::SameLine,
-        spelling: b"(",
-    },
-];
-
-/// The token of a statement behind the text.
-const CLOSE: Token = Token {
-    before: Before::Anything,
-    spelling: b")",
-};
-
-/// The tokens behind the statements.
-const TAIL: [Token; 2] = [
-    Token {
-        before: Before::Anything,
-        spelling: b"}",
-    },
-    Token {
-        before: Before::Anything,
-        spelling: b"}",
-    },
-];
+#[cfg(test)]
+mod tests;
 
 /// The refusal of a source that is more than what is built so far. It names the first byte.
 pub fn not_built() -> Refusal
@@ -144,13 +42,11 @@ fn statement(source: &[u8], before: Before) -> Option<(&[u8], &[u8])>
     ensures none { IfNone result (PrintsNothing before source.now) }
     ensures shorter { IfSome result (λ found. length found.1.now < length source.now) }
 {
-    let rest = take(
-        source,
-        &Token {
-            before,
-            spelling: b"Stdout",
-        },
-    )?;
+    let first = Token {
+        before,
+        spelling: STDOUT,
+    };
+    let rest = take(source, &first)?;
     let rest = skip(rest, &CALL)?;
     let (text, rest) = take_text(rest)?;
     let rest = take(rest, &CLOSE)?;

@@ -6,6 +6,7 @@
 
 mod fault;
 mod first_form;
+mod tokens;
 
 pub use fault::PlainFault;
 pub use first_form::{not_built, plain};
