@@ -1,7 +1,9 @@
 -- What the shared definitions give in small cases: how ends overlap, the order of mail, and the states of a future.
-use Rattle.std.proofs.Common.{◌≡◌, ℕ, Bool, true, false, Option, None, Some, List, [], ◌∷◌, refl}
+use Rattle.std.proofs.Common.{◌≡◌, ℕ, Bool, true, false, Option, None, Some, List, [], ◌∷◌, refl, replicate}
+use Rattle.std.specs.Prelude.{codes}
+use Rattle.ink_base.specs.declared.future.FutureState.{FutureState}
 use Rattle.ink_base.specs.declared.future.FutureState.TheVariants.{Open, Set, Broken, Taken}
-use Rattle.ink_base.specs.Actions.{Action, Send, NewFuture, GetFuture, Take, Panic, SharedState, is_enabled, as_made, after_action}
+use Rattle.ink_base.specs.Actions.{Take, Print, Spawn, Send, NewFuture, BreakFuture, GetFuture, Panic, SharedState, opening, is_enabled, as_made, after_action}
 use Rattle.ink_base.specs.Ends.{Standing, Enabled, AtTake, AtGet, Spent, Endless, Stop, Rests, CheckedIn, RoundsMade, EntriesMade, EntryFails, End, Panicked, Waiting, Quiet, EventLimit, LocalLimit, RoundLimit, JournalEnds, BadEntry, end_of}
 use Rattle.ink_base.specs.Futures.{after_set, after_break, after_get, value_of}
 use Rattle.ink_base.specs.Limits.{default_numbers}
@@ -69,11 +71,50 @@ numbers_go_on : unread_of (after_send (after_take (after_take two_sent 2) 2) 2 2
 unfolding two_sent
 numbers_go_on = refl
 
-set_once : after_set (after_set (Open {T = ℕ}) 4) 5 ≡ Set 4
+abbrev made : FutureState ℕ
+made = Open
+
+set_once : after_set (after_set made 4) 5 ≡ Set 4
 set_once = refl
 
-taken_once : value_of (after_get (after_set (Open {T = ℕ}) 4)) ≡ None
+taken_once : value_of (after_get (after_set made 4)) ≡ None
 taken_once = refl
 
-set_is_not_broken : after_break (after_set (Open {T = ℕ}) 4) ≡ Set 4
+set_is_not_broken : after_break (after_set made 4) ≡ Set 4
 set_is_not_broken = refl
+
+-- process 1 alone, with the message with which a run begins
+start : SharedState ℕ
+start = opening 5 10
+
+take_is_enabled : is_enabled Take 1 start ≡ true
+unfolding start
+take_is_enabled = refl
+
+take_waits : is_enabled Take 1 (after_action Take 1 start) ≡ false
+unfolding start
+take_waits = refl
+
+get_waits : is_enabled (GetFuture 1) 1 (after_action NewFuture 1 start) ≡ false
+unfolding start
+get_waits = refl
+
+get_of_broken : as_made (GetFuture 1) (after_action (BreakFuture 1) 1 (after_action NewFuture 1 start)) default_numbers ≡ Panic (codes "future is broken")
+unfolding start
+get_of_broken = refl
+
+spawn_at_its_limit : as_made (Spawn 3 0) start (replicate 14 1) ≡ Panic (codes "limit reached: processes")
+unfolding start
+spawn_at_its_limit = refl
+
+send_at_its_limit : as_made (Send 1 5 0) start (replicate 14 1) ≡ Panic (codes "limit reached: mailbox")
+unfolding start
+send_at_its_limit = refl
+
+send_below_its_limit : as_made (Send 1 5 0) start (replicate 14 2) ≡ Send 1 5 0
+unfolding start
+send_below_its_limit = refl
+
+printed_line : (after_action (Print (codes "a")) 1 (after_action (Print (codes "b")) 1 start)).output ≡ 98 ∷ 10 ∷ 97 ∷ 10 ∷ []
+unfolding start
+printed_line = refl

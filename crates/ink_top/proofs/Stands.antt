@@ -3,14 +3,17 @@ use Rattle.std.proofs.Common.{◌+◌, suc, length, drop, get_or, drop-cons, add
 use Rattle.std.specs.Option.{option_and_then}
 use Rattle.ink_base.specs.Outside.{appended, CutsWrite}
 use Rattle.ink_base.proofs.Appended.{appended-appended}
-use Rattle.ink_top.specs.World.{Program, World, Process, replay, turns, turn, opening, IsQuiet, IsCut, line_of}
+use Rattle.ink_top.specs.World.{Program, World, replay, turns, turn, opening_world, IsQuiet, IsCut, line_of}
 use Rattle.ink_top.specs.Runs.{SinkState, Gets, Prints, Replays, ReplaysCut, Runs}
 use Rattle.ink_top.specs.declared.run.RunFault.{RunFault}
 use Rattle.ink_top.specs.declared.run.RunFault.TheVariants.{SinkFailed, OutOfMemory}
 
 -- the world in which the one process has these texts left
 abbrev pub printing : Program → List ℕ → World
-printing rest output = record { processes = record { mailbox = []; statements = rest } ∷ []; output = output }
+printing rest output = record {
+  shared = record { mail = record { sent = 1; unread = [] } ∷ []; futures = []; output = output };
+  statements = rest ∷ []
+}
 
 pub record Stands (program rest : Program) (journal : List ℕ) (old new : SinkState) : Type 0 where
   pub output : List ℕ
@@ -34,21 +37,21 @@ some_injective : (A : Type 0) (a b : A) → Some a ≡ Some b → a ≡ b
 some_injective A a b e = cc
 
 -- one more turn at the end of a journal
-turns_after : (journal : List ℕ) (process : ℕ) (mid new : World)
-    → ((world : World) → turns world journal ≡ Some mid → turns world (journal ++ process ∷ []) ≡ Some new)
-    → (step : Option World) → option_and_then (λ world. turns world journal) step ≡ Some mid
-    → option_and_then (λ world. turns world (journal ++ process ∷ [])) step ≡ Some new
-turns_after journal process mid new more None replayed = cc
-turns_after journal process mid new more (Some world) replayed = more world replayed
+turns_after : (program : Program) (journal : List ℕ) (process : ℕ) (mid new : World)
+    → ((world : World) → turns program world journal ≡ Some mid → turns program world (journal ++ process ∷ []) ≡ Some new)
+    → (step : Option World) → option_and_then (λ world. turns program world journal) step ≡ Some mid
+    → option_and_then (λ world. turns program world (journal ++ process ∷ [])) step ≡ Some new
+turns_after program journal process mid new more None replayed = cc
+turns_after program journal process mid new more (Some world) replayed = more world replayed
 
-turns_more : (journal : List ℕ) (process : ℕ) (mid new : World) → turn mid process ≡ Some new
-    → (world : World) → turns world journal ≡ Some mid → turns world (journal ++ process ∷ []) ≡ Some new
-turns_more [] process mid new next world replayed = rw (some_injective World world mid replayed) (rw next refl)
-turns_more (first ∷ journal) process mid new next world replayed =
-    turns_after journal process mid new (turns_more journal process mid new next) (turn world first) replayed
+turns_more : (program : Program) (journal : List ℕ) (process : ℕ) (mid new : World) → turn program mid process ≡ Some new
+    → (world : World) → turns program world journal ≡ Some mid → turns program world (journal ++ process ∷ []) ≡ Some new
+turns_more program [] process mid new next world replayed = rw (some_injective World world mid replayed) (rw next refl)
+turns_more program (first ∷ journal) process mid new next world replayed =
+    turns_after program journal process mid new (turns_more program journal process mid new next) (turn program world first) replayed
 
 pub replays_nothing : (program : Program) (sink : SinkState) → Replays program [] sink sink
-replays_nothing program sink = record { world = opening program; replayed = refl; gets = gets_nothing sink }
+replays_nothing program sink = record { world = opening_world; replayed = refl; gets = gets_nothing sink }
 
 pub stands_first : (program : Program) (sink : SinkState) → Stands program program (1 ∷ []) sink sink
 stands_first program sink = record { output = []; replayed = refl; gets = gets_nothing sink }
@@ -59,7 +62,8 @@ printed : (program : Program) (text : List ℕ) (rest : Program) (before after :
     → replay program after ≡ Some (printing rest (output ++ line_of text))
 printed program text rest before after output replayed entries =
     ap (replay program) entries
-    ∙ turns_more before 1 (printing (text ∷ rest) output) (printing rest (output ++ line_of text)) refl (opening program) replayed
+    ∙ turns_more program before 1 (printing (text ∷ rest) output) (printing rest (output ++ line_of text))
+        (ap (λ written. Some (printing rest written)) (append_assoc output text (10 ∷ []))) opening_world replayed
 
 pub stands_next : (program : Program) (text : List ℕ) (rest : Program) (before after : List ℕ) (old mid new : SinkState)
     → Stands program (text ∷ rest) before old mid → after ≡ before ++ 1 ∷ [] → Gets mid new (line_of text) → Stands program rest after old new
@@ -75,7 +79,7 @@ stands_memory program rest journal old new stood =
 
 pub stands_done : (program : Program) (journal : List ℕ) (old new : SinkState) → Stands program [] journal old new → (it : Replays program journal old new) × IsQuiet it.world
 unfolding stands_memory
-stands_done program journal old new stood = (stands_memory program [] journal old new stood, ((refl, refl), tt))
+stands_done program journal old new stood = (stands_memory program [] journal old new stood, refl)
 
 pub stands_cut : (program : Program) (text : List ℕ) (rest : Program) (before after : List ℕ) (old mid new : SinkState)
     → Stands program (text ∷ rest) before old mid → after ≡ before ++ 1 ∷ [] → mid.faults < new.faults → CutsWrite mid.contents new.contents (line_of text)
@@ -88,12 +92,12 @@ stands_cut program text rest before after old mid new stood entries failed cuts 
     before = before;
     last = 1;
     world = printing (text ∷ rest) stood.output;
-    process = record { mailbox = []; statements = text ∷ rest };
+    texts = text ∷ rest;
     text = text;
     count = cuts.0;
     entries = entries;
     replayed = stood.replayed;
-    acts = refl;
+    left = refl;
     prints = refl;
     cut = cuts.1;
     written = refl;

@@ -29,7 +29,7 @@ Prints (Err fault.SinkFailed) text old-journal new-journal old new =
 pub record Replays (program : Program) (journal : List ℕ) (old new : SinkState) : Type 0 where
   pub world : World
   pub replayed : replay program journal ≡ Some world
-  pub gets : Gets old new world.output
+  pub gets : Gets old new world.shared.output
 
 -- the output of the journal's replay, cut within its last print
 pub record ReplaysCut (program : Program) (journal : List ℕ) (old new : SinkState) : Type 0 where
