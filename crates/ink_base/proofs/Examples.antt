@@ -1,10 +1,10 @@
 -- What the shared definitions give in small cases: how ends overlap, the order of mail, and the states of a future.
-use Rattle.std.proofs.Common.{◌≡◌, ℕ, Bool, true, false, Option, None, Some, List, [], ◌∷◌, refl, replicate}
+use Rattle.std.proofs.Common.{◌≡◌, ℕ, Bool, true, false, None, Some, List, [], ◌∷◌, refl, replicate}
 use Rattle.std.specs.Prelude.{codes}
 use Rattle.ink_base.specs.declared.future.FutureState.{FutureState}
-use Rattle.ink_base.specs.declared.future.FutureState.TheVariants.{Open, Set, Broken, Taken}
+use Rattle.ink_base.specs.declared.future.FutureState.TheVariants.{Open, Set}
 use Rattle.ink_base.specs.Actions.{Take, Print, Spawn, Send, NewFuture, BreakFuture, GetFuture, Panic, SharedState, opening, is_enabled, as_made, after_action}
-use Rattle.ink_base.specs.Ends.{Standing, Enabled, AtTake, AtGet, Spent, Endless, Stop, Rests, CheckedIn, RoundsMade, EntriesMade, EntryFails, End, Panicked, Waiting, Quiet, EventLimit, LocalLimit, RoundLimit, JournalEnds, BadEntry, end_of}
+use Rattle.ink_base.specs.Ends.{Standing, Enabled, AtTake, AtGet, Spent, Endless, Rests, CheckedIn, RoundsMade, EntriesMade, EntryFails, Panicked, Waiting, Quiet, EventLimit, LocalLimit, RoundLimit, JournalEnds, BadEntry, end_of}
 use Rattle.ink_base.specs.Futures.{after_set, after_break, after_get, value_of}
 use Rattle.ink_base.specs.Limits.{default_numbers}
 use Rattle.ink_base.specs.Messages.{Mail, empty_mailbox, front_of, unread_of, after_send, after_take}

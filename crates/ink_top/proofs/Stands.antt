@@ -12,7 +12,7 @@ use Rattle.ink_top.specs.declared.run.RunFault.TheVariants.{SinkFailed, OutOfMem
 abbrev pub printing : Program → List ℕ → World
 printing rest output = record {
   shared = record { mail = record { sent = 1; unread = [] } ∷ []; futures = []; output = output };
-  statements = rest ∷ []
+  statements = rest ∷ [];
 }
 
 pub record Stands (program rest : Program) (journal : List ℕ) (old new : SinkState) : Type 0 where
@@ -63,7 +63,7 @@ printed : (program : Program) (text : List ℕ) (rest : Program) (before after :
 printed program text rest before after output replayed entries =
     ap (replay program) entries
     ∙ turns_more program before 1 (printing (text ∷ rest) output) (printing rest (output ++ line_of text))
-        (ap (λ written. Some (printing rest written)) (append_assoc output text (10 ∷ []))) opening_world replayed
+    (ap (λ written. Some (printing rest written)) (append_assoc output text (10 ∷ []))) opening_world replayed
 
 pub stands_next : (program : Program) (text : List ℕ) (rest : Program) (before after : List ℕ) (old mid new : SinkState)
     → Stands program (text ∷ rest) before old mid → after ≡ before ++ 1 ∷ [] → Gets mid new (line_of text) → Stands program rest after old new

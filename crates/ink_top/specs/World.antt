@@ -43,7 +43,7 @@ acted program world process texts =
     if is_enabled (next_of texts) process world.shared
     then Some (record {
       shared = after_action (next_of texts) process world.shared;
-      statements = set_numbered world.statements process (left_after program texts)
+      statements = set_numbered world.statements process (left_after program texts);
     })
     else None
 
