@@ -8,6 +8,7 @@ pub mod Limits
 pub mod Memory
 pub mod Messages
 pub mod Numbered
+pub mod Objects
 pub mod Outside
 pub mod Panics
 pub mod Refusal

@@ -215,6 +215,7 @@ impl Refusal {
         }
         Ok(Text::from_bytes(told))
     }
+
     /// Whether this is told rather than the other, where one phase finds both: it stands at a lesser byte, or at the
     /// same byte and its code is less.
     pub fn is_before(&self, other: &Refusal) -> bool

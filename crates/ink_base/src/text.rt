@@ -56,6 +56,7 @@ impl Text {
     {
         self.bytes.as_slice() == bytes
     }
+
     /// The bytes of this text and then those of another.
     pub fn joined(&self, alloc: Global, other: &Text, most: u64) -> Result<Text, TextFault>
         ensures ok { IfOk result (λ text. text ≡ self.now ++ other.now) }
