@@ -1,0 +1,25 @@
+use Rattle.std.proofs.Common.{◌≡◌, ◌<◌, ◌^◌, refl, ap, sym, ◌∙◌, subst, arith, Some}
+use Rattle.std.specs.Option.{option_and_then}
+use Rattle.std.specs.List.{slice_get}
+use Rattle.ink_base.specs.Objects.{with_field, with_more, without_last, counted_up, counted_down}
+use Rattle.ink_heap.proofs.PairsLemmas.{len-seen, get-seen_absent, seen-absent, get-held, held-pair, seen-changed, seen-same, AreApart-changed, objects-removed, AreApart-removed, objects-put, AreApart-put}
+use Rattle.ink_heap.proofs.FieldsLemmas.{with_fields, IsPopAnswer-fields}
+use Rattle.ink_heap.proofs.heap.Heap.free.Goals as goal
+
+pub invariant_of-self : goal.invariant_of-self
+invariant_of-self c =
+    let at = (rw c.deref.ensures.value at c.in-Some.ensures) in
+    rw c.remove-object.ensures.items (AreApart-removed _ _ _ c.self.view_is c.self.invariant c.in-Some.place c.args.id.now at _ c.index.ensures)
+
+pub returns : goal.returns
+returns c =
+    let at = (rw c.deref.ensures.value at c.in-Some.ensures) in
+    let spare = ap (λ view. view.spare) c.self.view_is in
+    let pair = held-pair _ _ _ c.self.view_is c.self.invariant c.in-Some.place c.args.id.now at _ c.index.ensures in
+    let taken = held-pair _ _ _ c.self.view_is c.self.invariant c.in-Some.place c.args.id.now at _ c.remove-object.ensures.value in
+    rw (get-held _ _ _ c.self.view_is c.self.invariant c.in-Some.place c.args.id.now at _ c.index.ensures) (
+      omega arith,
+      ap (λ pair. pair.1.fields) (taken ∙ sym pair),
+      rw c.remove-object.ensures.items (objects-removed _ _ _ c.self.view_is c.self.invariant c.in-Some.place c.args.id.now at _ c.index.ensures),
+      omega arith,
+    )

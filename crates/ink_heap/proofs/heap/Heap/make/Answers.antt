@@ -1,0 +1,31 @@
+use Rattle.std.proofs.Common.{◌≡◌, ◌<◌, ◌^◌, refl, ap, sym, ◌∙◌, subst, arith, Some}
+use Rattle.std.specs.Option.{option_and_then}
+use Rattle.std.specs.List.{slice_get}
+use Rattle.ink_base.specs.Objects.{with_field, with_more, without_last, counted_up, counted_down}
+use Rattle.ink_heap.proofs.PairsLemmas.{len-seen, get-seen_absent, seen-absent, get-held, held-pair, seen-changed, seen-same, AreApart-changed, objects-removed, AreApart-removed, objects-put, AreApart-put}
+use Rattle.ink_heap.proofs.FieldsLemmas.{with_fields, IsPopAnswer-fields}
+use Rattle.ink_heap.proofs.heap.Heap.make.Goals as goal
+
+pub returns-then-len-most : goal.returns-then-len-most
+returns-then-len-most c =
+    let len = len-seen _ _ _ c.self.view_is c.self.invariant in
+    let held = c.self.inside.pairs.ok.0 in
+    (omega arith, refl, refl)
+
+pub returns-in-Err : goal.returns-in-Err
+returns-in-Err c =
+    let len = len-seen _ _ _ c.self.view_is c.self.invariant in
+    let held = c.self.inside.pairs.ok.0 in
+    let spare = ap (λ view. view.spare) c.self.view_is in
+    (omega arith, omega (arith, c.in-Err.ensures.full), refl, rw (c.in-Err.ensures.items, c.in-Err.ensures.len, c.in-Err.ensures.err) c.self.view_is)
+
+pub invariant_of-self-2 : goal.invariant_of-self-2
+invariant_of-self-2 c =
+    rw (c.push_reserved.ensures.items, c.in_default.ensures.items) (AreApart-put _ _ _ c.self.view_is c.self.invariant c.args.id _ c.requires)
+
+pub returns : goal.returns
+returns c =
+    let len = len-seen _ _ _ c.self.view_is c.self.invariant in
+    let held = c.self.inside.pairs.ok.0 in
+    let spare = ap (λ view. view.spare) c.self.view_is in
+    (omega arith, rw (c.push_reserved.ensures.items, c.in_default.ensures.items) (objects-put _ _ _ c.self.view_is c.self.invariant c.args.id _ c.requires), omega arith)
