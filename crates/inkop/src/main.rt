@@ -4,43 +4,27 @@
 use ink_base::{HostFiles, HostSink, OpenGate, Text, write_whole};
 use ink_top::inko_main;
 use std::alloc::AllocError;
-use std::env::FillError;
+use std::env;
+use std::io::ErrorKind;
 use std::process::ExitCode;
 use std::rt::Env;
 
 /// The status where there is no memory for the words.
 const NO_MEMORY: u8 = 5;
 
-/// How long a word may be at the first try. Each further try doubles it.
-const FIRST_ROOM: usize = 256;
-
-/// The word of a number, where there is one. Its bytes need not be UTF-8.
-fn word(rt: &(impl Env + AllocGlobal), number: usize) -> Result<Option<Text>, AllocError> {
-    let mut room = FIRST_ROOM;
-    for _ in 0..usize::BITS {
-        let mut bytes = vec![in rt.alloc(); 0; room]?;
-        match rt.arg(number, &mut bytes) {
-            Ok(length) => {
-                bytes.truncate(length);
-                return Ok(Some(Text::from_bytes(bytes)));
-            }
-            Err(FillError::NotPresent) => return Ok(None),
-            Err(FillError::TooLong) => room = room.saturating_mul(2),
-        }
-    }
-    Err(AllocError)
-}
-
-/// The words of the command line behind the program's name.
+/// The words of the command line behind the program's name. Where one of them isn't UTF-8, there are none.
 fn words(rt: &(impl Env + AllocGlobal)) -> Result<Vec<Text>, AllocError> {
     let mut words = Vec::new(rt.alloc());
-    for number in 1..usize::MAX {
-        let Some(word) = word(rt, number)? else {
-            break;
-        };
-        words.push(word)?;
+    match env::args(rt) {
+        Ok(all) => {
+            for word in all.skip(1) {
+                words.push(Text::from_bytes(word.into_bytes()))?;
+            }
+            Ok(words)
+        }
+        Err(error) if error.kind() == ErrorKind::OutOfMemory => Err(AllocError),
+        Err(_) => Ok(words),
     }
-    Ok(words)
 }
 
 fn main(rt: HostRuntime) -> ExitCode {
