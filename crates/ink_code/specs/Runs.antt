@@ -1,0 +1,137 @@
+-- Runs of a code: its processes and what they share, their turns, the replay of a journal, and what is ahead of it.
+use Rattle.std.specs.Prelude.{◌≡◌, ℕ, ◌+◌, Bool, true, Option, None, Some, Result, Ok, Err, List, [], ◌∷◌, ◌++◌, length}
+use Rattle.std.specs.FinMap.{insert, empty}
+use Rattle.ink_base.specs.declared.value.Value.{Value}
+use Rattle.ink_base.specs.Actions.{Action, SharedState, opening, is_enabled, as_made, after_action}
+use Rattle.ink_base.specs.Actions as action
+use Rattle.ink_base.specs.Futures.{value_of}
+use Rattle.ink_base.specs.declared.future.FutureState.{FutureState}
+use Rattle.ink_base.specs.Messages.{Message, front_of}
+use Rattle.ink_base.specs.Numbered.{numbered, set_numbered}
+use Rattle.ink_code.specs.declared.code.Code.{Code}
+use Rattle.ink_code.specs.declared.wrong.Wrong.{Wrong}
+use Rattle.ink_base.specs.Objects.{Objects}
+use Rattle.ink_code.specs.Process.{Process}
+use Rattle.ink_code.specs.Replies.{Reply, Done, Taken, Started, NewPair, Got, answered}
+use Rattle.ink_code.specs.Slice.{steps_on, ComesTo}
+use Rattle.ink_code.specs.Step.{free_step}
+use Rattle.ink_code.specs.Trees.{Parcel}
+
+-- a run as it stands: its processes by number, what they share, and the process that panicked, with its text
+pub record World : Type 0 where
+  pub processes : List Process
+  pub shared : SharedState Parcel
+  pub panic : Option (ℕ × List ℕ)
+
+-- a parcel with nothing in it
+abbrev pub no_parcel : Parcel
+no_parcel = record { values = []; objects = empty }
+
+-- a process as it begins: its state is its first object, and has these fields
+abbrev pub begun : ℕ → ℕ → Parcel → Process
+begun number kind parcel =
+    let state : Objects = insert parcel.objects (record { process = number; serial = 1 }) (record { kind = kind; tag = 0; fields = parcel.values; count = 0 }) in
+    record { number = number; kind = kind; made = 1; frames = []; objects = state; pending = []; ran = 0 }
+
+-- a run as it begins: one process of the main type, with the message of the main method
+abbrev pub opening_world : Code → World
+opening_world code =
+    record { processes = begun 1 code.main_kind no_parcel ∷ []; shared = opening code.main no_parcel; panic = None }
+
+abbrev pub taken : Option (Message Parcel) → Option Reply
+taken None = None
+taken (Some message) = Some (Taken message.method message.values)
+
+abbrev pub got : Option Parcel → Option Reply
+got None = None
+got (Some parcel) = Some (Got parcel)
+
+abbrev pub held_by : Option (FutureState Parcel) → Option Parcel
+held_by None = None
+held_by (Some state) = value_of state
+
+-- what comes back of an action that a process makes: nothing of a panic
+unfoldable pub reply_of : Action Parcel → ℕ → SharedState Parcel → Option Reply
+reply_of action.Take process shared = taken (front_of shared.mail process)
+reply_of (action.Print text) process shared = Some Done
+reply_of (action.Spawn kind parcel) process shared = Some (Started (length shared.mail + 1))
+reply_of (action.Send to method parcel) process shared = Some Done
+reply_of action.NewFuture process shared = Some (NewPair (length shared.futures + 1))
+reply_of (action.SetFuture future parcel) process shared = Some Done
+reply_of (action.BreakFuture future) process shared = Some Done
+reply_of (action.GetFuture future) process shared = got (held_by (numbered shared.futures future))
+reply_of (action.Panic text) process shared = None
+
+abbrev pub else_same : Result Process Wrong → Process → Process
+else_same (Err why) p = p
+else_same (Ok q) p = q
+
+-- a process after the reply to its action, where there is one
+abbrev pub after_reply : Code → Option Reply → Process → Process
+after_reply code None p = p
+after_reply code (Some reply) p = else_same (answered code reply p) p
+
+-- the processes after an action: a spawn makes one more
+abbrev pub with_started : Action Parcel → List Process → List Process
+with_started (action.Spawn kind parcel) processes = processes ++ begun (length processes + 1) kind parcel ∷ []
+with_started other processes = processes
+
+abbrev pub panic_by : Action Parcel → ℕ → Option (ℕ × List ℕ)
+panic_by (action.Panic text) process = Some (process, text)
+panic_by other process = None
+
+-- a run after a process made an action for which it waited
+unfoldable pub after_made : Code → Action Parcel → ℕ → Process → World → World
+after_made code made process waiting world =
+    record {
+      processes = with_started made (set_numbered world.processes process (after_reply code (reply_of made process world.shared) waiting));
+      shared = after_action made process world.shared;
+      panic = panic_by made process;
+    }
+
+-- a turn of a process: it comes to an action that can be made, and makes it, or panics in its place
+pub record CodeTurn (code : Code) (limits : List ℕ) (process : ℕ) (old new : World) : Type 0 where
+  pub runs : old.panic ≡ None
+  pub p : Process
+  pub stands : numbered old.processes process ≡ Some p
+  pub wish : Action Parcel
+  pub waiting : Process
+  pub comes : ComesTo code limits p wish waiting
+  pub enabled : is_enabled wish process old.shared ≡ true
+  pub after : new ≡ after_made code (as_made wish old.shared limits) process waiting old
+
+-- the run after the turns of a journal, in its order
+pub data CodeReplay (code : Code) (limits : List ℕ) : List ℕ → World → Type 0 where
+  begins : CodeReplay code limits [] (opening_world code)
+  turns : (journal : List ℕ) (process : ℕ) (old new : World) → CodeReplay code limits journal old → CodeTurn code limits process old new → CodeReplay code limits (journal ++ process ∷ []) new
+
+-- the action to which a process comes after the turns of a journal
+pub record CodeNext (code : Code) (limits : List ℕ) (journal : List ℕ) (process : ℕ) (wish : Action Parcel) : Type 0 where
+  pub world : World
+  pub replay : CodeReplay code limits journal world
+  pub runs : world.panic ≡ None
+  pub p : Process
+  pub stands : numbered world.processes process ≡ Some p
+  pub waiting : Process
+  pub comes : ComesTo code limits p wish waiting
+
+-- each of the processes, numbered from the first one on, made so many steps of its own
+abbrev pub AreAhead : Code → List ℕ → (ℕ → ℕ) → ℕ → List Process → List Process → Type 0
+AreAhead code limits steps first [] [] = Unit {0}
+AreAhead code limits steps first [] (q ∷ others) = ⊥
+AreAhead code limits steps first (p ∷ others) [] = ⊥
+AreAhead code limits steps first (p ∷ ps) (q ∷ qs) =
+    (steps_on (steps first) code limits p ≡ Some q) × AreAhead code limits steps (first + 1) ps qs
+
+-- the run after the turns of a journal and so many further steps of each process, none of which comes to an action
+pub record CodeAhead (code : Code) (limits : List ℕ) (journal : List ℕ) (steps : ℕ → ℕ) (world : World) : Type 0 where
+  pub turned : World
+  pub replay : CodeReplay code limits journal turned
+  pub ahead : AreAhead code limits steps 1 turned.processes world.processes
+  pub shared : world.shared ≡ turned.shared
+  pub panic : world.panic ≡ turned.panic
+
+-- in no run of the code a process comes to a wrong instruction
+abbrev pub IsSafe : Code → List ℕ → Type 0
+IsSafe code limits =
+    (journal : List ℕ) (steps : ℕ → ℕ) (world : World) → CodeAhead code limits journal steps world → (process : ℕ) (p : Process) → numbered world.processes process ≡ Some p → (why : Wrong) → ¬ (free_step code limits p.pending p ≡ Err why)

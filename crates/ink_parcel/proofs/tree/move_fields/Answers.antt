@@ -1,0 +1,53 @@
+use Rattle.std.proofs.Common.{◌≡◌, ◌<◌, [], length, ap, sym, ◌∙◌, subst, refl, arith, Some}
+use Rattle.std.specs.List.{slice_get}
+use Rattle.ink_base.specs.declared.ident.ObjectId.{ObjectId}
+use Rattle.ink_base.specs.declared.value.Value.TheVariants.{Own}
+use Rattle.ink_parcel.specs.Moves.{OwnedAt, fields_at}
+use Rattle.ink_parcel.proofs.MovesLemmas.{Moves-none, Moves-among, Moves-then, Moves-longer, AreGone-moved, AreGone-other, AreGone-all, owned_name, owns_none, fields_at-then, fields_at-read}
+use Rattle.ink_parcel.proofs.tree.move_fields.Goals as goal
+use Rattle.ink_parcel.proofs.tree.move_fields.Goals.{in-Some+in_ok-move_object, in_default}
+
+pub loop-index-init : goal.loop-index-init
+loop-index-init c = record {
+  within = c.requires;
+  all = c.len-index-end.ensures ∙ sym (ap length (fields_at-read c.args.moved.now.items c.args.place c.index.result.now c.requires c.index.ensures));
+  moves = Moves-none _ c.args.heap.now c.args.moved.now.items;
+  gone = λ id owns. absurd (owns_none [] id refl owns);
+}
+
+pub returns-in_err-move_object-clause-moves : goal.returns-in_err-move_object-clause-moves
+returns-in_err-move_object-clause-moves c =
+    let fields = ap (λ pairs. fields_at pairs c.args.place) c.deref.ensures.value ∙ fields_at-then c.loop-index.invariant.moves c.args.place c.requires in
+    let own = subst (λ fields. slice_get fields c.loop-index.index ≡ Some (Own c.in-Some.id)) fields c.in-Some.ensures in
+    Moves-then c.loop-index.invariant.moves (Moves-among c.in_err-move_object.ensures.moves (owned_name (fields_at c.args.moved.now.items c.args.place) c.loop-index.index c.in-Some.id own))
+
+pub loop-index-preserved : goal.loop-index-preserved
+loop-index-preserved c =
+    let values = fields_at c.args.moved.now.items c.args.place in
+    let index = c.loop-index.index in
+    let all = c.loop-index.invariant.all in
+    let low : index < length values = omega arith in
+    let fields = ap (λ pairs. fields_at pairs c.args.place) c.deref.ensures.value ∙ fields_at-then c.loop-index.invariant.moves c.args.place c.requires in
+    elim c.match-owned_at.branch [
+      | in-Some+in_ok-move_object w ↦
+          let own = subst (λ fields. slice_get fields index ≡ Some (Own w.in-Some.id)) fields w.in-Some.ensures in
+          let m = w.in_ok-move_object.ensures.moves in
+          rw (w.heap-is, w.moved-is) (record {
+            within = Moves-longer m c.args.place c.loop-index.invariant.within;
+            all = all;
+            moves = Moves-then c.loop-index.invariant.moves (Moves-among m (owned_name values index w.in-Some.id own));
+            gone = AreGone-moved values index w.in-Some.id m low c.loop-index.invariant.gone own w.in_ok-move_object.ensures.gone;
+          })
+      | in_default w ↦
+          let none = subst (λ fields. (id : ObjectId) → slice_get fields index ≡ Some (Own id) → ⊥) fields w.in_default.ensures in
+          rw (w.heap-is, w.moved-is) (record {
+            within = c.loop-index.invariant.within;
+            all = all;
+            moves = c.loop-index.invariant.moves;
+            gone = AreGone-other values index c.loop-index.heap.objects low c.loop-index.invariant.gone none;
+          })
+    ]
+
+pub returns-clause-gone : goal.returns-clause-gone
+returns-clause-gone c =
+    AreGone-all (fields_at c.args.moved.now.items c.args.place) c.loop-index.index c.loop-index.heap.objects (omega arith) c.loop-index.invariant.gone
