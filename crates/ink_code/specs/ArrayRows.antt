@@ -1,12 +1,11 @@
 -- The rows of Array. The receiver's borrow ends with the row.
-use Rattle.std.specs.Prelude.{ℕ, ℤ, pos, ◌-◌, ◌==◌, if◌then◌else◌, Bool, Option, None, Some, Result, Ok, Err, List, [], ◌∷◌, ◌++◌, length, take, slice_get}
+use Rattle.std.specs.Prelude.{ℕ, ℤ, pos, ◌-◌, ◌==◌, if◌then◌else◌, Option, None, Some, Err, List, [], ◌∷◌, ◌++◌, length, take, slice_get}
 use Rattle.ink_base.specs.declared.ident.ObjectId.{ObjectId}
 use Rattle.ink_base.specs.declared.limits.Limit.TheVariants as limit
 use Rattle.ink_base.specs.declared.value.Value.{Value}
 use Rattle.ink_base.specs.declared.value.Value.TheVariants as v
 use Rattle.ink_base.specs.Actions.{reached}
 use Rattle.ink_base.specs.Panics.{cycle_text, index_text}
-use Rattle.ink_base.specs.declared.object.Object.{Object}
 use Rattle.ink_code.specs.declared.wrong.Wrong.TheVariants as wrong
 use Rattle.ink_code.specs.Machine.{after, unless, with_objects}
 use Rattle.ink_base.specs.Objects.{changed_object, with_field}

@@ -1,5 +1,5 @@
 -- The rows of Bool.
-use Rattle.std.specs.Prelude.{ℕ, ◌==◌, not, if◌then◌else◌, Bool, true, false, Result, Ok, Err, List, codes}
+use Rattle.std.specs.Prelude.{ℕ, ◌==◌, not, if◌then◌else◌, Bool, true, false, Err, List, codes}
 use Rattle.ink_base.specs.declared.value.Value.{Value}
 use Rattle.ink_base.specs.declared.value.Value.TheVariants as v
 use Rattle.ink_code.specs.declared.wrong.Wrong.TheVariants as wrong

@@ -1,5 +1,5 @@
 -- The instructions that begin and end frames.
-use Rattle.std.specs.Prelude.{ℕ, ◌+◌, ◌==◌, ◌&&◌, if◌then◌else◌, Option, None, Some, Result, Ok, Err, List, [], ◌∷◌, length, slice_get}
+use Rattle.std.specs.Prelude.{ℕ, ◌+◌, ◌==◌, ◌&&◌, if◌then◌else◌, Option, None, Some, Err, List, [], ◌∷◌, length, slice_get}
 use Rattle.ink_base.specs.declared.limits.Limit.TheVariants as limit
 use Rattle.ink_base.specs.declared.value.Value.{Value}
 use Rattle.ink_base.specs.Actions.{reached}
@@ -8,12 +8,11 @@ use Rattle.ink_code.specs.declared.code.Impl.{Impl}
 use Rattle.ink_code.specs.declared.frame.Frame.{Frame}
 use Rattle.ink_code.specs.declared.instr.Instr.{Instr}
 use Rattle.ink_code.specs.declared.instr.Instr.TheVariants as i
-use Rattle.ink_code.specs.declared.wrong.Wrong.{Wrong}
 use Rattle.ink_code.specs.declared.wrong.Wrong.TheVariants as wrong
 use Rattle.ink_code.specs.Fetch.{fetch}
 use Rattle.ink_code.specs.Machine.{Outcome, given, after, unless_text, stays, has, reads}
 use Rattle.ink_code.specs.Objects.{object_at, object_of}
-use Rattle.ink_code.specs.Process.{Process, held, register, with_register, at_place, taken_out, entered}
+use Rattle.ink_code.specs.Process.{Process, held, with_register, at_place, taken_out, entered}
 
 -- a method is called with the values of registers: at the limit of frames nothing moves
 unfoldable pub invoke_step : Code → List ℕ → ℕ → ℕ → List ℕ → Process → Outcome

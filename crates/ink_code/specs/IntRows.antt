@@ -1,5 +1,5 @@
 -- The rows of Int.
-use Rattle.std.specs.Prelude.{ℕ, ℤ, pos, negsuc, neg_ℤ, ◌+ℤ◌, ◌-ℤ◌, ◌*ℤ◌, ◌+◌, ◌/◌, ◌==◌, zero, suc, int_lt, int_le, nat_lt, not, if◌then◌else◌, Bool, Option, None, Some, Result, Ok, Err, List, [], ◌∷◌}
+use Rattle.std.specs.Prelude.{ℕ, ℤ, pos, negsuc, neg_ℤ, ◌+ℤ◌, ◌-ℤ◌, ◌*ℤ◌, ◌+◌, ◌/◌, ◌==◌, suc, int_lt, int_le, nat_lt, not, if◌then◌else◌, Bool, Option, None, Some, Err, List}
 use Rattle.std.specs.Fmt.{signed_decimal}
 use Rattle.std.specs.Int.{int_bit_and, int_bit_or, int_bit_xor, int_shl, int_shr}
 use Rattle.std.specs.Ordering.{int_eq}

@@ -1,5 +1,5 @@
 -- The instructions that make objects, read and write their fields, and take them apart.
-use Rattle.std.specs.Prelude.{ℕ, ◌+◌, ◌==◌, pos, Bool, Option, Result, Ok, Err, List, length, slice_get}
+use Rattle.std.specs.Prelude.{ℕ, ◌+◌, pos, nat_lt, List, length, slice_get}
 use Rattle.std.specs.FinMap.{insert, remove, len}
 use Rattle.ink_base.specs.declared.ident.ObjectId.{ObjectId}
 use Rattle.ink_base.specs.declared.limits.Limit.TheVariants as limit
@@ -10,11 +10,10 @@ use Rattle.ink_base.specs.Panics.{cycle_text, drop_text}
 use Rattle.ink_code.specs.declared.code.Code.{Code}
 use Rattle.ink_code.specs.declared.frame.Frame.{Frame}
 use Rattle.ink_base.specs.declared.object.Object.{Object}
-use Rattle.ink_code.specs.declared.wrong.Wrong.{Wrong}
 use Rattle.ink_code.specs.declared.wrong.Wrong.TheVariants as wrong
 use Rattle.ink_code.specs.Machine.{Outcome, given, unless, unless_text, after, went, panics, passed, has, reads, put, with_objects}
 use Rattle.ink_code.specs.Moves.{copies}
-use Rattle.ink_base.specs.Objects.{Objects, changed_object, with_field}
+use Rattle.ink_base.specs.Objects.{changed_object, with_field}
 use Rattle.ink_code.specs.Objects.{array_kind, object_at, field_at, lent, object_of, owned_by}
 use Rattle.ink_code.specs.Process.{Process, next_id, with_register, taken_out, put_out}
 use Rattle.ink_code.specs.Trees.{is_under}
@@ -77,7 +76,7 @@ tag_step next to object p =
 -- an object that is given up: a panic where a borrow of it is counted
 abbrev pub gives_up : Code → Object → Process → Outcome → Outcome
 gives_up code found p further =
-    unless (found.count == 0) further (given wrong.Place (slice_get code.kinds found.kind) (λ name. panics (drop_text name found.count) p))
+    unless (nat_lt 0 found.count) (given wrong.Place (slice_get code.kinds found.kind) (λ name. panics (drop_text name found.count) p)) further
 
 -- an object is given up, and its fields go to registers
 unfoldable pub take_apart_step : Code → ℕ → List ℕ → ℕ → Process → Outcome

@@ -1,5 +1,5 @@
 -- The instructions that move values between registers, and those that jump.
-use Rattle.std.specs.Prelude.{ℕ, Bool, if◌then◌else◌, Option, None, Some, Result, Ok, Err, List, slice_get}
+use Rattle.std.specs.Prelude.{ℕ, Bool, if◌then◌else◌, Result, Ok, Err, List, slice_get}
 use Rattle.ink_base.specs.declared.value.Value.{Value}
 use Rattle.ink_base.specs.declared.value.Value.TheVariants as v
 use Rattle.ink_code.specs.declared.code.Code.{Code}

@@ -1,12 +1,11 @@
 -- The rows of Option, and that which makes a Stdout.
-use Rattle.std.specs.Prelude.{ℕ, ◌==◌, not, if◌then◌else◌, Bool, Option, None, Some, Result, Ok, Err, List, [], ◌∷◌, slice_get}
+use Rattle.std.specs.Prelude.{ℕ, ◌==◌, nat_lt, not, if◌then◌else◌, Bool, Option, None, Some, Err, List, [], slice_get}
 use Rattle.std.specs.FinMap.{remove}
 use Rattle.ink_base.specs.declared.value.Value.{Value}
 use Rattle.ink_base.specs.declared.value.Value.TheVariants as v
 use Rattle.ink_base.specs.Panics.{drop_text, no_value_text}
 use Rattle.ink_code.specs.declared.code.Code.{Code}
 use Rattle.ink_base.specs.declared.object.Object.{Object}
-use Rattle.ink_code.specs.declared.wrong.Wrong.{Wrong}
 use Rattle.ink_code.specs.declared.wrong.Wrong.TheVariants as wrong
 use Rattle.ink_code.specs.Machine.{given, needs, unless, after, with_objects}
 use Rattle.ink_code.specs.Objects.{option_kind, stdout_kind, some_tag, object_at, owned_by}
@@ -30,7 +29,7 @@ unfoldable pub value_row : Code → List Value → Process → RowOutcome
 value_row code values p =
     after (single values) (λ value. after (owned_by value) (λ id. after (object_at p.objects id) (λ found.
     needs (found.kind == option_kind) wrong.Kind
-    (unless (not (found.count == 0)) (given wrong.Place (slice_get code.kinds found.kind) (λ name. fails (drop_text name found.count) p))
+    (unless (nat_lt 0 found.count) (given wrong.Place (slice_get code.kinds found.kind) (λ name. fails (drop_text name found.count) p))
     (unless (not (has_value found)) (fails no_value_text p)
     (given wrong.Place (slice_get found.fields 0) (λ item. gives item (with_objects (remove p.objects id) p))))))))
 

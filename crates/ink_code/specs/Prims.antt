@@ -1,9 +1,8 @@
 -- The instruction that does a row of the built-in methods. The rows of futures, promises and of a print are actions,
 -- and have instructions of their own.
-use Rattle.std.specs.Prelude.{ℕ, nat_lt, if◌then◌else◌, Result, Ok, Err, List}
+use Rattle.std.specs.Prelude.{ℕ, nat_lt, if◌then◌else◌, Ok, List}
 use Rattle.ink_base.specs.declared.value.Value.{Value}
 use Rattle.ink_code.specs.declared.code.Code.{Code}
-use Rattle.ink_code.specs.declared.frame.Frame.{Frame}
 use Rattle.ink_code.specs.ArrayRows.{array_rows}
 use Rattle.ink_code.specs.BoolRows.{bool_rows}
 use Rattle.ink_code.specs.IntRows.{int_rows}
@@ -17,14 +16,19 @@ use Rattle.ink_code.specs.TextRows.{text_rows}
 abbrev pub leaves : Process → Computation → RowOutcome
 leaves p computation = after computation (λ computed. Ok (computed, p))
 
+-- the rows that only compute: those of Int, Bool and String
+unfoldable pub value_rows : List ℕ → ℕ → List Value → Computation
+value_rows limits row values =
+    if nat_lt row 17 then int_rows row values
+    else (if nat_lt row 21 then bool_rows row values
+    else text_rows limits row values)
+
 -- a row on values, which were moved to it
 unfoldable pub row_step : Code → List ℕ → ℕ → List Value → Process → RowOutcome
 row_step code limits row values p =
-    if nat_lt row 17 then leaves p (int_rows row values)
-    else (if nat_lt row 21 then leaves p (bool_rows row values)
-    else (if nat_lt row 29 then leaves p (text_rows limits row values)
+    if nat_lt row 29 then leaves p (value_rows limits row values)
     else (if nat_lt row 38 then array_rows limits row values p
-    else option_rows code limits row values p)))
+    else option_rows code limits row values p)
 
 -- what the row came to, from a process and after its operands were moved: a value goes to a register, and a panic leaves
 -- the process as it was

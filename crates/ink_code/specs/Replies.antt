@@ -1,9 +1,8 @@
 -- The replies of actions, and what each makes of the process that waits for it.
-use Rattle.std.specs.Prelude.{ℕ, Option, None, Some, Result, Ok, Err, List, [], ◌∷◌, slice_get}
+use Rattle.std.specs.Prelude.{ℕ, Option, Some, Result, Ok, Err, List, [], ◌∷◌, slice_get}
 use Rattle.ink_base.specs.declared.value.Value.{Value}
 use Rattle.ink_base.specs.declared.value.Value.TheVariants as v
 use Rattle.ink_code.specs.declared.code.Code.{Code}
-use Rattle.ink_code.specs.declared.frame.Frame.{Frame}
 use Rattle.ink_code.specs.declared.instr.Instr.{Instr}
 use Rattle.ink_code.specs.declared.instr.Instr.TheVariants as i
 use Rattle.ink_code.specs.declared.wrong.Wrong.{Wrong}

@@ -1,5 +1,5 @@
 -- Runs in rounds: each process that is ready makes a slice, and then their actions are made by number.
-use Rattle.std.specs.Prelude.{ℕ, zero, suc, ◌+◌, ◌==◌, nat_le, if◌then◌else◌, Bool, true, false, Option, None, Some, Result, Ok, Err, List, [], ◌∷◌, ◌++◌, length, map}
+use Rattle.std.specs.Prelude.{ℕ, zero, suc, ◌+◌, ◌==◌, nat_le, if◌then◌else◌, Bool, true, false, Option, None, Some, Ok, Err, List, [], ◌∷◌, ◌++◌, length, map}
 use Rattle.std.specs.List.{list_any}
 use Rattle.ink_base.specs.declared.limits.Limit.TheVariants as limit
 use Rattle.ink_base.specs.Actions.{Action, is_enabled, as_made}
@@ -102,8 +102,8 @@ abbrev pub acts : Code → List ℕ → Action Parcel → ℕ → Process → Ro
 acts code limits wish number p state =
     if is_enabled wish number state.world.shared
     then (if nat_le (limit_of limit.Events limits) (length state.journal)
-        then ends_with (EventLimit number) number p state
-        else acted code (as_made wish state.world.shared limits) number p state)
+    then ends_with (EventLimit number) number p state
+    else acted code (as_made wish state.world.shared limits) number p state)
     else back_in number p (waits_at wish) state
 
 -- what a slice came to is done, while the run goes on

@@ -1,5 +1,5 @@
 -- What a row of the built-in methods comes to, and the forms in which rows are written.
-use Rattle.std.specs.Prelude.{ℕ, ℤ, pos, negsuc, ◌==◌, ◌-◌, ◌^◌, ◌&&◌, int_le, nat_lt, if◌then◌else◌, Bool, true, false, Option, None, Some, Result, Ok, Err, List, [], ◌∷◌}
+use Rattle.std.specs.Prelude.{ℕ, ℤ, pos, negsuc, ◌==◌, ◌-◌, ◌^◌, ◌&&◌, int_le, nat_lt, if◌then◌else◌, Bool, Option, None, Some, Result, Ok, Err, List, [], ◌∷◌}
 use Rattle.std.specs.FinMap.{len}
 use Rattle.ink_base.specs.declared.ident.ObjectId.{ObjectId}
 use Rattle.ink_base.specs.declared.limits.Limit.TheVariants as limit

@@ -1,7 +1,6 @@
 -- Runs of a code: its processes and what they share, their turns, the replay of a journal, and what is ahead of it.
-use Rattle.std.specs.Prelude.{◌≡◌, ℕ, ◌+◌, Bool, true, Option, None, Some, Result, Ok, Err, List, [], ◌∷◌, ◌++◌, length}
+use Rattle.std.specs.Prelude.{◌≡◌, ℕ, ◌+◌, true, Option, None, Some, Result, Ok, Err, List, [], ◌∷◌, ◌++◌, length}
 use Rattle.std.specs.FinMap.{insert, empty}
-use Rattle.ink_base.specs.declared.value.Value.{Value}
 use Rattle.ink_base.specs.Actions.{Action, SharedState, opening, is_enabled, as_made, after_action}
 use Rattle.ink_base.specs.Actions as action
 use Rattle.ink_base.specs.Futures.{value_of}

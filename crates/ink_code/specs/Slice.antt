@@ -1,9 +1,8 @@
 -- Several steps, one after another.
-use Rattle.std.specs.Prelude.{◌≡◌, ◌≤◌, ℕ, zero, suc, Option, None, Some, Result, Ok, Err, List}
+use Rattle.std.specs.Prelude.{◌≡◌, ℕ, zero, suc, Option, None, Some, Ok, Err, List}
 use Rattle.ink_base.specs.Actions.{Action}
 use Rattle.ink_base.specs.Actions as action
 use Rattle.ink_code.specs.declared.code.Code.{Code}
-use Rattle.ink_code.specs.declared.wrong.Wrong.{Wrong}
 use Rattle.ink_code.specs.Machine.{Stepped, Went, Wants, Panics, Spent, Outcome}
 use Rattle.ink_code.specs.Process.{Process}
 use Rattle.ink_code.specs.Step.{code_step, free_step}

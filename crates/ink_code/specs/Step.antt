@@ -1,5 +1,5 @@
 -- The code machine: one clause for each instruction.
-use Rattle.std.specs.Prelude.{ℕ, ◌+◌, nat_le, Option, None, Some, Result, Ok, Err, List, [], ◌∷◌}
+use Rattle.std.specs.Prelude.{ℕ, ◌+◌, nat_le, Ok, List, [], ◌∷◌}
 use Rattle.ink_base.specs.declared.limits.Limit.TheVariants as limit
 use Rattle.ink_base.specs.declared.value.Value.{Value}
 use Rattle.ink_base.specs.Actions as action

@@ -1,5 +1,5 @@
 -- The rows of String.
-use Rattle.std.specs.Prelude.{ℕ, ℤ, pos, ◌+◌, ◌==◌, nat_eq, not, if◌then◌else◌, Bool, Option, None, Some, Result, Ok, Err, List, ◌++◌, length, slice_index}
+use Rattle.std.specs.Prelude.{ℕ, ℤ, pos, ◌+◌, ◌==◌, nat_eq, not, if◌then◌else◌, Option, None, Some, Err, List, ◌++◌, length, slice_index}
 use Rattle.std.specs.List.{starts_with}
 use Rattle.std.specs.Str.{bytes_eq}
 use Rattle.ink_base.specs.declared.limits.Limit.TheVariants as limit

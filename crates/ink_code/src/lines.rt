@@ -95,7 +95,12 @@ fn name(instr: &Instr) -> &'static [u8]
 }
 
 /// Writes numbers, and then those of a list.
-fn put_listed(alloc: Global, out: &mut Vec<u8>, first: &[u32], list: &Items<u32>) -> Result<(), AllocError>
+fn put_listed(
+    alloc: Global,
+    out: &mut Vec<u8>,
+    first: &[u32],
+    list: &Items<u32>,
+) -> Result<(), AllocError>
     ensures { OnOk result (out.new.items ≡ out.old.items ++ numbers_text (first.now ++ list.now)) }
 {
     put_numbers(alloc, out, first)?;
@@ -104,7 +109,12 @@ fn put_listed(alloc: Global, out: &mut Vec<u8>, first: &[u32], list: &Items<u32>
 }
 
 /// Writes the numbers of a list, and then one more.
-fn put_before(alloc: Global, out: &mut Vec<u8>, list: &Items<u32>, last: u32) -> Result<(), AllocError>
+fn put_before(
+    alloc: Global,
+    out: &mut Vec<u8>,
+    list: &Items<u32>,
+    last: u32,
+) -> Result<(), AllocError>
     ensures { OnOk result (out.new.items ≡ out.old.items ++ numbers_text (list.now ++ last ∷ [])) }
 {
     put_numbers(alloc, out, list.as_slice())?;
@@ -124,35 +134,114 @@ fn put_operands(alloc: Global, out: &mut Vec<u8>, instr: &Instr) -> Result<(), A
         Instr::Borrow { to, from } => put_numbers(alloc, out, &[*to, *from]),
         Instr::Exchange { one, other } => put_numbers(alloc, out, &[*one, *other]),
         Instr::MyProc { to } => put_numbers(alloc, out, &[*to]),
-        Instr::Make { to, kind, tag, fields } => put_listed(alloc, out, &[*to, *kind, *tag], fields),
+        Instr::Make {
+            to,
+            kind,
+            tag,
+            fields,
+        } => put_listed(alloc, out, &[*to, *kind, *tag], fields),
         Instr::MakeArray { to, items } => put_listed(alloc, out, &[*to], items),
         Instr::Load { to, object, field } => put_numbers(alloc, out, &[*to, *object, *field]),
         Instr::LoadBorrow { to, object, field } => put_numbers(alloc, out, &[*to, *object, *field]),
-        Instr::Store { to, object, field, from } => {
-            put_numbers(alloc, out, &[*to, *object, *field, *from])
-        }
+        Instr::Store {
+            to,
+            object,
+            field,
+            from,
+        } => { put_numbers(alloc, out, &[*to, *object, *field, *from]) }
         Instr::Tag { to, object } => put_numbers(alloc, out, &[*to, *object]),
         Instr::TakeApart { to, object } => put_before(alloc, out, to, *object),
         Instr::Drop { from } => put_numbers(alloc, out, &[*from]),
         Instr::DropMaybe { from } => put_numbers(alloc, out, &[*from]),
         Instr::Jump { place } => put_numbers(alloc, out, &[*place]),
         Instr::JumpIf { on, place } => put_numbers(alloc, out, &[*on, *place]),
-        Instr::Invoke { to, method, arguments } => {
-            put_listed(alloc, out, &[*to, *method], arguments)
-        }
-        Instr::InvokeBound { to, slot, arguments } => {
-            put_listed(alloc, out, &[*to, *slot], arguments)
-        }
+        Instr::Invoke {
+            to,
+            method,
+            arguments,
+        } => { put_listed(alloc, out, &[*to, *method], arguments) }
+        Instr::InvokeBound {
+            to,
+            slot,
+            arguments,
+        } => { put_listed(alloc, out, &[*to, *slot], arguments) }
         Instr::Return { from } => put_numbers(alloc, out, &[*from]),
         Instr::Prim { row, to, operands } => put_listed(alloc, out, &[*row, *to], operands),
         Instr::Panic { text } => put_numbers(alloc, out, &[*text]),
         Instr::Spawn { to, kind, fields } => put_listed(alloc, out, &[*to, *kind], fields),
-        Instr::Send { process, method, arguments } => {
-            put_listed(alloc, out, &[*process, *method], arguments)
-        }
+        Instr::Send {
+            process,
+            method,
+            arguments,
+        } => { put_listed(alloc, out, &[*process, *method], arguments) }
         Instr::Print { text } => put_numbers(alloc, out, &[*text]),
         Instr::FutureNew { future, promise } => put_numbers(alloc, out, &[*future, *promise]),
         Instr::FutureGet { to, future } => put_numbers(alloc, out, &[*to, *future]),
         Instr::PromiseSet { promise, from } => put_numbers(alloc, out, &[*promise, *from]),
+    }
+}
+
+#[cfg(test)]
+mod tests {
+    use super::*;
+    use crate::code::Impl;
+    use std::test::Fail;
+
+    #[test]
+    fn lists_and_fetches(rt: HostRuntime) -> Result<(), Fail> {
+        let alloc = rt.alloc();
+        let first = Method {
+            name: Text::of(alloc, b"Main.main")?,
+            registers: 12,
+            body: Items::of(vec![in alloc;
+                Instr::Const { to: 0, constant: 3 },
+                Instr::Prim {
+                    row: 24,
+                    to: 10,
+                    operands: Items::of(vec![in alloc; 0u32, 11]?)
+                },
+                Instr::TakeApart {
+                    to: Items::of(vec![in alloc; 4u32, 5]?),
+                    object: 6
+                },
+                Instr::MakeArray {
+                    to: 1,
+                    items: Items::new(alloc)
+                },
+            ]?),
+            lines: Items::new(alloc),
+        };
+        let second = Method {
+            name: Text::of(alloc, b"step_1")?,
+            registers: 0,
+            body: Items::new(alloc),
+            lines: Items::new(alloc),
+        };
+        let code = Code {
+            methods: Items::of(vec![in alloc; first, second]?),
+            constants: Items::new(alloc),
+            kinds: Items::new(alloc),
+            impls: Items::of(vec![in alloc;
+                Impl {
+                    kind: 13,
+                    slot: 0,
+                    method: 1
+                },
+            ]?),
+            main_kind: 13,
+            main: 0,
+        };
+        assert!(rt;
+            listing(alloc, &code)?.is(
+                b"method Main.main registers 12\n  0 Const 0 3\n  1 Prim 24 10 0 11\n  2 TakeApart 4 5 6\n  3 MakeArray 1\nmethod step_1 registers 0\n"
+            )
+        );
+        assert!(rt; matches!(code.fetch(0, 0), Some(Instr::Const { to: 0, constant: 3 })));
+        assert!(rt; matches!(code.fetch(0, 3), Some(Instr::MakeArray { .. })));
+        assert!(rt; code.fetch(0, 4).is_none());
+        assert!(rt; code.fetch(0, u32::MAX).is_none());
+        assert!(rt; code.fetch(1, 0).is_none());
+        assert!(rt; code.fetch(2, 0).is_none());
+        Ok(())
     }
 }

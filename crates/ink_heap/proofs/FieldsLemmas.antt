@@ -1,5 +1,5 @@
 -- What a push or a pop of an object's fields tells of the heap.
-use Rattle.std.proofs.Common.{◌≡◌, ℕ, ◌+◌, ◌-◌, Option, None, Some, List, [], ◌∷◌, ◌++◌, length, take, refl, ap, sym, ◌∙◌, arith, length-append}
+use Rattle.std.proofs.Common.{◌≡◌, ◌-◌, Option, None, Some, List, [], ◌∷◌, ◌++◌, length, take, ap, sym, ◌∙◌, arith, length-append}
 use Rattle.std.proofs.Math.Seq.{take-append_seam}
 use Rattle.std.specs.List.{slice_get}
 use Rattle.std.specs.Option.{MatchOption, option_and_then}
@@ -11,7 +11,7 @@ use Rattle.ink_base.specs.declared.object.Object.{Object}
 use Rattle.ink_heap.specs.Answers.{IsPopAnswer, last_field}
 use Rattle.ink_base.specs.Objects.{changed_object, without_last}
 use Rattle.ink_heap.specs.View.{HeapView}
-use Rattle.ink_heap.proofs.PairsLemmas.{changed_object-alike, changed_object-same}
+use Rattle.ink_heap.proofs.ObjectsLemmas.{changed_object-alike, changed_object-same}
 
 -- an object with these fields
 abbrev pub with_fields : List Value → Object → Object

@@ -1,2 +1,3 @@
 pub mod FieldsLemmas
+pub mod ObjectsLemmas
 pub mod PairsLemmas

@@ -1,11 +1,8 @@
 -- What a write, a removal and a push at a name make of the map of some pairs.
-use Rattle.std.proofs.Common.{◌≡◌, ℕ, zero, suc, ◌+◌, ◌-◌, Bool, true, false, cond, Option, Some, None, List, [], ◌∷◌, ◌++◌, length, get_or, ◌<◌, set, take, drop, refl, sym, ap, ◌∙◌, subst, arith}
+use Rattle.std.proofs.Common.{◌≡◌, ℕ, zero, suc, ◌+◌, Bool, true, false, cond, Option, Some, None, [], ◌∷◌, ◌++◌, length, get_or, ◌<◌, set, refl, sym, ap, ◌∙◌, subst, arith}
 use Rattle.std.specs.List.{slice_get, remove}
-use Rattle.std.specs.Ordering.{eq_by_cmp}
-use Rattle.std.specs.Cmp.{eq_by_cmp_equiv}
 use Rattle.std.specs.Option.{is_some}
 use Rattle.std.proofs.lemmas.Option.{none-some, same_Some, slice_get_read, get_or_from_slice_get}
-use Rattle.std.proofs.lemmas.Map.Views.{tells_apart}
 use Rattle.std.specs.FinMap.{find, from_entries, insert, get, len, get-from_entries, get-insert, get-remove, same_map, from_entries_push, len-insert, len-empty}
 use Rattle.std.specs.FinMap as map
 use Rattle.std.specs.FinMap.Entries.{find-append}
@@ -14,38 +11,27 @@ use Rattle.ink_base.specs.Ident.{id_cmp}
 use Rattle.ink_base.proofs.IdentLemmas.{id_cmp_total, id_cmp_exact}
 use Rattle.ink_base.specs.declared.object.Object.{Object}
 use Rattle.ink_heap.specs.Pairs.{Pairs, AreApart, HoldsName}
-use Rattle.ink_base.specs.Objects.{Objects, changed_object, change_found}
+use Rattle.ink_base.specs.Objects.{changed_object, change_found}
 use Rattle.ink_heap.specs.View.{HeapView}
-
-abbrev pub is_same : ObjectId → ObjectId → Bool
-is_same = eq_by_cmp id_cmp
-
-pub is_same-itself : (id : ObjectId) → is_same id id ≡ true
-is_same-itself id = (eq_by_cmp_equiv id_cmp_total).refl id
-
-pub is_same-turned : (a b : ObjectId) → is_same a b ≡ is_same b a
-is_same-turned a b = (eq_by_cmp_equiv id_cmp_total).symm a b
-
-pub is_same-one : (a b : ObjectId) → is_same a b ≡ true → a ≡ b
-is_same-one a b h = tells_apart {R = id_cmp} id_cmp_exact a b h
+use Rattle.ink_heap.proofs.ObjectsLemmas.{is_same, is_same-itself, is_same-turned, is_same-one, changed_object-same}
 
 pub find_at : (pairs : Pairs) (place : ℕ) (id : ObjectId) (object : Object) → AreApart pairs → slice_get pairs place ≡ Some (id, object) → find id_cmp id pairs ≡ Some object
-find_at [] place id object a h = absurd (none-some _ h)
-find_at (pair ∷ pairs) zero id object a h =
-    let x : pair ≡ (id, object) = same_Some _ _ h in
+find_at [] place id object apart there = absurd (none-some _ there)
+find_at (pair ∷ pairs) zero id object apart there =
+    let x : pair ≡ (id, object) = same_Some _ _ there in
     subst (λ (y : ObjectId × Object). cond (is_same id y.0) (Some y.1) (find id_cmp id pairs) ≡ Some object) (sym x) (ap (λ b. cond b (Some object) (find id_cmp id pairs)) (is_same-itself id))
-find_at (pair ∷ pairs) (suc place) id object a h =
-    let rest = find_at pairs place id object a.1 h in
+find_at (pair ∷ pairs) (suc place) id object apart there =
+    let rest = find_at pairs place id object apart.1 there in
     elim (is_same id pair.0) as (λ b. is_same id pair.0 ≡ b → cond b (Some pair.1) (find id_cmp id pairs) ≡ Some object) [
-      | true ↦ λ t. absurd (none-some object (sym a.0 ∙ ap (λ other. find id_cmp other pairs) (sym (is_same-one id pair.0 t)) ∙ rest))
+      | true ↦ λ t. absurd (none-some object (sym apart.0 ∙ ap (λ other. find id_cmp other pairs) (sym (is_same-one id pair.0 t)) ∙ rest))
       | false ↦ λ t. rest
     ] refl
 
 -- a name that stands further on is not the first one
 not_both : (pair : ObjectId × Object) (pairs : Pairs) (place : ℕ) (id other : ObjectId) (object : Object) → AreApart (pair ∷ pairs) → slice_get pairs place ≡ Some (id, object) → is_same other pair.0 ≡ true → is_same other id ≡ true → ⊥
-not_both pair pairs place id other object a h s t =
+not_both pair pairs place id other object apart there s t =
     let x : pair.0 ≡ id = sym (is_same-one other pair.0 s) ∙ is_same-one other id t in
-    none-some object (sym a.0 ∙ ap (λ n. find id_cmp n pairs) x ∙ find_at pairs place id object a.1 h)
+    none-some object (sym apart.0 ∙ ap (λ n. find id_cmp n pairs) x ∙ find_at pairs place id object apart.1 there)
 
 swapped : {X : Type 0} (a b : Bool) (x y z : X) → (a ≡ true → b ≡ true → ⊥) → cond a x (cond b y z) ≡ cond b y (cond a x z)
 swapped true true x y z n = absurd (n refl refl)
@@ -58,66 +44,66 @@ twice true x y z = refl
 twice false x y z = refl
 
 pub find-set : (pairs : Pairs) (place : ℕ) (id : ObjectId) (object next : Object) → AreApart pairs → slice_get pairs place ≡ Some (id, object) → (other : ObjectId) → find id_cmp other (set pairs place (id, next)) ≡ cond (is_same other id) (Some next) (find id_cmp other pairs)
-find-set [] place id object next a h other = absurd (none-some _ h)
-find-set (pair ∷ pairs) zero id object next a h other =
-    let x : pair ≡ (id, object) = same_Some _ _ h in
+find-set [] place id object next apart there other = absurd (none-some _ there)
+find-set (pair ∷ pairs) zero id object next apart there other =
+    let x : pair ≡ (id, object) = same_Some _ _ there in
     subst (λ (y : ObjectId × Object). cond (is_same other id) (Some next) (find id_cmp other pairs) ≡ cond (is_same other id) (Some next) (cond (is_same other y.0) (Some y.1) (find id_cmp other pairs))) (sym x) (twice (is_same other id) _ _ _)
-find-set (pair ∷ pairs) (suc place) id object next a h other =
-    ap (cond (is_same other pair.0) (Some pair.1)) (find-set pairs place id object next a.1 h other)
-    ∙ swapped (is_same other pair.0) (is_same other id) _ _ _ (not_both pair pairs place id other object a h)
+find-set (pair ∷ pairs) (suc place) id object next apart there other =
+    ap (cond (is_same other pair.0) (Some pair.1)) (find-set pairs place id object next apart.1 there other)
+    ∙ swapped (is_same other pair.0) (is_same other id) _ _ _ (not_both pair pairs place id other object apart there)
 
 hidden : {X : Type 0} (a : Bool) (x z n : X) → (a ≡ true → z ≡ n) → z ≡ cond a n (cond a x z)
 hidden true x z n h = h refl
 hidden false x z n h = refl
 
 pub find-remove : (pairs : Pairs) (place : ℕ) (id : ObjectId) (object : Object) → AreApart pairs → slice_get pairs place ≡ Some (id, object) → (other : ObjectId) → find id_cmp other (remove pairs place) ≡ cond (is_same other id) None (find id_cmp other pairs)
-find-remove [] place id object a h other = absurd (none-some _ h)
-find-remove (pair ∷ pairs) zero id object a h other =
-    let x : pair ≡ (id, object) = same_Some _ _ h in
+find-remove [] place id object apart there other = absurd (none-some _ there)
+find-remove (pair ∷ pairs) zero id object apart there other =
+    let x : pair ≡ (id, object) = same_Some _ _ there in
     let y : pair.0 ≡ id = ap (λ (pair : ObjectId × Object). pair.0) x in
-    subst (λ (y : ObjectId × Object). find id_cmp other pairs ≡ cond (is_same other id) None (cond (is_same other y.0) (Some y.1) (find id_cmp other pairs))) (sym x) (hidden (is_same other id) _ _ _ (λ t. ap (λ n. find id_cmp n pairs) (is_same-one other id t ∙ sym y) ∙ a.0))
-find-remove (pair ∷ pairs) (suc place) id object a h other =
-    ap (cond (is_same other pair.0) (Some pair.1)) (find-remove pairs place id object a.1 h other)
-    ∙ swapped (is_same other pair.0) (is_same other id) _ _ _ (not_both pair pairs place id other object a h)
+    subst (λ (y : ObjectId × Object). find id_cmp other pairs ≡ cond (is_same other id) None (cond (is_same other y.0) (Some y.1) (find id_cmp other pairs))) (sym x) (hidden (is_same other id) _ _ _ (λ t. ap (λ n. find id_cmp n pairs) (is_same-one other id t ∙ sym y) ∙ apart.0))
+find-remove (pair ∷ pairs) (suc place) id object apart there other =
+    ap (cond (is_same other pair.0) (Some pair.1)) (find-remove pairs place id object apart.1 there other)
+    ∙ swapped (is_same other pair.0) (is_same other id) _ _ _ (not_both pair pairs place id other object apart there)
 
 not_same : (pair : ObjectId × Object) (pairs : Pairs) (place : ℕ) (id : ObjectId) (object : Object) → AreApart (pair ∷ pairs) → slice_get pairs place ≡ Some (id, object) → is_same pair.0 id ≡ false
-not_same pair pairs place id object a h = elim (is_same pair.0 id) as (λ b. is_same pair.0 id ≡ b → b ≡ false) [ true ↦ λ t. absurd (not_both pair pairs place id pair.0 object a h (is_same-itself pair.0) t) | false ↦ λ t. refl ] refl
+not_same pair pairs place id object apart there = elim (is_same pair.0 id) as (λ b. is_same pair.0 id ≡ b → b ≡ false) [ true ↦ λ t. absurd (not_both pair pairs place id pair.0 object apart there (is_same-itself pair.0) t) | false ↦ λ t. refl ] refl
 
 pub AreApart-set : (pairs : Pairs) (place : ℕ) (id : ObjectId) (object next : Object) → AreApart pairs → slice_get pairs place ≡ Some (id, object) → AreApart (set pairs place (id, next))
-AreApart-set [] place id object next a h = absurd (none-some _ h)
-AreApart-set (pair ∷ pairs) zero id object next a h = (ap (λ n. find id_cmp n pairs) (sym (ap (λ (y : ObjectId × Object). y.0) (same_Some _ _ h))) ∙ a.0, a.1)
-AreApart-set (pair ∷ pairs) (suc place) id object next a h = (find-set pairs place id object next a.1 h pair.0 ∙ ap (λ b. cond b (Some next) (find id_cmp pair.0 pairs)) (not_same pair pairs place id object a h) ∙ a.0, AreApart-set pairs place id object next a.1 h)
+AreApart-set [] place id object next apart there = absurd (none-some _ there)
+AreApart-set (pair ∷ pairs) zero id object next apart there = (ap (λ n. find id_cmp n pairs) (sym (ap (λ (y : ObjectId × Object). y.0) (same_Some _ _ there))) ∙ apart.0, apart.1)
+AreApart-set (pair ∷ pairs) (suc place) id object next apart there = (find-set pairs place id object next apart.1 there pair.0 ∙ ap (λ b. cond b (Some next) (find id_cmp pair.0 pairs)) (not_same pair pairs place id object apart there) ∙ apart.0, AreApart-set pairs place id object next apart.1 there)
 
 pub AreApart-remove : (pairs : Pairs) (place : ℕ) (id : ObjectId) (object : Object) → AreApart pairs → slice_get pairs place ≡ Some (id, object) → AreApart (remove pairs place)
-AreApart-remove [] place id object a h = absurd (none-some _ h)
-AreApart-remove (pair ∷ pairs) zero id object a h = a.1
-AreApart-remove (pair ∷ pairs) (suc place) id object a h = (find-remove pairs place id object a.1 h pair.0 ∙ ap (λ b. cond b None (find id_cmp pair.0 pairs)) (not_same pair pairs place id object a h) ∙ a.0, AreApart-remove pairs place id object a.1 h)
+AreApart-remove [] place id object apart there = absurd (none-some _ there)
+AreApart-remove (pair ∷ pairs) zero id object apart there = apart.1
+AreApart-remove (pair ∷ pairs) (suc place) id object apart there = (find-remove pairs place id object apart.1 there pair.0 ∙ ap (λ b. cond b None (find id_cmp pair.0 pairs)) (not_same pair pairs place id object apart there) ∙ apart.0, AreApart-remove pairs place id object apart.1 there)
 
 absent_parts : {X : Type 0} (b : Bool) (x : X) (z : Option X) → cond b (Some x) z ≡ None → (b ≡ false) × (z ≡ None)
 absent_parts true x z h = absurd (none-some x (sym h))
 absent_parts false x z h = (refl, h)
 
 pub AreApart-push : (pairs : Pairs) (id : ObjectId) (object : Object) → AreApart pairs → find id_cmp id pairs ≡ None → AreApart (pairs ++ (id, object) ∷ [])
-AreApart-push [] id object a h = (refl, tt)
-AreApart-push (pair ∷ pairs) id object a h =
-    let parts = absent_parts (is_same id pair.0) pair.1 (find id_cmp id pairs) h in
-    (find-append id_cmp id_cmp_total pairs id object pair.0 parts.1 ∙ ap (λ b. cond b (Some object) (find id_cmp pair.0 pairs)) (is_same-turned pair.0 id ∙ parts.0) ∙ a.0, AreApart-push pairs id object a.1 parts.1)
+AreApart-push [] id object apart there = (refl, tt)
+AreApart-push (pair ∷ pairs) id object apart there =
+    let parts = absent_parts (is_same id pair.0) pair.1 (find id_cmp id pairs) there in
+    (find-append id_cmp id_cmp_total pairs id object pair.0 parts.1 ∙ ap (λ b. cond b (Some object) (find id_cmp pair.0 pairs)) (is_same-turned pair.0 id ∙ parts.0) ∙ apart.0, AreApart-push pairs id object apart.1 parts.1)
 
 -- what stands among the pairs, as the map tells it
 pub get_at : (pairs : Pairs) (place : ℕ) (id : ObjectId) (object : Object) → AreApart pairs → slice_get pairs place ≡ Some (id, object) → get (from_entries {R = id_cmp} pairs) id ≡ Some object
-get_at pairs place id object a h = get-from_entries id_cmp_total pairs id ∙ find_at pairs place id object a h
+get_at pairs place id object apart there = get-from_entries id_cmp_total pairs id ∙ find_at pairs place id object apart there
 
 pub get_absent : (pairs : Pairs) (id : ObjectId) → find id_cmp id pairs ≡ None → get (from_entries {R = id_cmp} pairs) id ≡ None
 get_absent pairs id h = get-from_entries id_cmp_total pairs id ∙ h
 
 pub map-set : (pairs : Pairs) (place : ℕ) (id : ObjectId) (object next : Object) → AreApart pairs → slice_get pairs place ≡ Some (id, object) → from_entries {R = id_cmp} (set pairs place (id, next)) ≡ insert (from_entries pairs) id next
-map-set pairs place id object next a h = same_map id_cmp_total id_cmp_exact _ _ (λ other.
-    get-from_entries id_cmp_total _ other ∙ find-set pairs place id object next a h other
+map-set pairs place id object next apart there = same_map id_cmp_total id_cmp_exact _ _ (λ other.
+    get-from_entries id_cmp_total _ other ∙ find-set pairs place id object next apart there other
     ∙ sym (get-insert id_cmp_total (from_entries pairs) id next other ∙ ap (cond (is_same other id) (Some next)) (get-from_entries id_cmp_total pairs other)))
 
 pub map-remove : (pairs : Pairs) (place : ℕ) (id : ObjectId) (object : Object) → AreApart pairs → slice_get pairs place ≡ Some (id, object) → from_entries {R = id_cmp} (remove pairs place) ≡ map.remove (from_entries pairs) id
-map-remove pairs place id object a h = same_map id_cmp_total id_cmp_exact _ _ (λ other.
-    get-from_entries id_cmp_total _ other ∙ find-remove pairs place id object a h other
+map-remove pairs place id object apart there = same_map id_cmp_total id_cmp_exact _ _ (λ other.
+    get-from_entries id_cmp_total _ other ∙ find-remove pairs place id object apart there other
     ∙ sym (get-remove id_cmp_total (from_entries pairs) id other ∙ ap (cond (is_same other id) None) (get-from_entries id_cmp_total pairs other)))
 
 pub map-push : (pairs : Pairs) (id : ObjectId) (object : Object) → find id_cmp id pairs ≡ None → from_entries {R = id_cmp} (pairs ++ (id, object) ∷ []) ≡ insert (from_entries pairs) id object
@@ -125,35 +111,14 @@ map-push pairs id object h = from_entries_push id_cmp_total id_cmp_exact pairs i
 
 pub map-changed : (pairs : Pairs) (place : ℕ) (id : ObjectId) (object : Object) (f : Object → Object) → AreApart pairs → slice_get pairs place ≡ Some (id, object) → from_entries {R = id_cmp} (set pairs place (id, f object)) ≡ changed_object (from_entries pairs) id f
 unfolding changed_object
-map-changed pairs place id object f a h = map-set pairs place id object (f object) a h ∙ sym (ap (λ x. change_found x (from_entries pairs) id f) (get_at pairs place id object a h))
-
--- a change that gives the same of the object that is there
-pub changed_object-alike : (objects : Objects) (id : ObjectId) (object : Object) (f g : Object → Object) → get objects id ≡ Some object → f object ≡ g object → changed_object objects id f ≡ changed_object objects id g
-unfolding changed_object
-changed_object-alike objects id object f g has same =
-    ap (λ x. change_found x objects id f) has
-    ∙ ap (insert objects id) same
-    ∙ sym (ap (λ x. change_found x objects id g) has)
-
-kept : {X : Type 0} (test : Bool) (x y : X) → (test ≡ true → y ≡ x) → cond test x y ≡ y
-kept true x y same = sym (same refl)
-kept false x y same = refl
-
--- a change that leaves it as it was
-pub changed_object-same : (objects : Objects) (id : ObjectId) (object : Object) (f : Object → Object) → get objects id ≡ Some object → f object ≡ object → changed_object objects id f ≡ objects
-unfolding changed_object
-changed_object-same objects id object f has same =
-    ap (λ x. change_found x objects id f) has
-    ∙ same_map id_cmp_total id_cmp_exact _ _ (λ other.
-    get-insert id_cmp_total objects id (f object) other
-    ∙ kept (is_same other id) (Some (f object)) (get objects other) (λ t. ap (get objects) (is_same-one other id t) ∙ has ∙ ap Some (sym same)))
+map-changed pairs place id object f apart there = map-set pairs place id object (f object) apart there ∙ sym (ap (λ x. change_found x (from_entries pairs) id f) (get_at pairs place id object apart there))
 
 pub len-apart : (pairs : Pairs) → AreApart pairs → len (from_entries {R = id_cmp} pairs) ≡ length pairs
-len-apart [] a = len-empty id_cmp Object
-len-apart (pair ∷ pairs) a =
+len-apart [] apart = len-empty id_cmp Object
+len-apart (pair ∷ pairs) apart =
     len-insert id_cmp_total (from_entries pairs) pair.0 pair.1
-    ∙ ap (λ x. cond (is_some x) (len (from_entries {R = id_cmp} pairs)) (len (from_entries {R = id_cmp} pairs) + 1)) (get_absent pairs pair.0 a.0)
-    ∙ ap (λ n. n + 1) (len-apart pairs a.1) ∙ omega arith
+    ∙ ap (λ x. cond (is_some x) (len (from_entries {R = id_cmp} pairs)) (len (from_entries {R = id_cmp} pairs) + 1)) (get_absent pairs pair.0 apart.0)
+    ∙ ap (λ n. n + 1) (len-apart pairs apart.1) ∙ omega arith
 
 -- the view of a heap with these pairs and this room
 abbrev pub view_of : Pairs → ℕ → HeapView
@@ -161,14 +126,14 @@ view_of pairs room = record { objects = from_entries {R = id_cmp} pairs; spare =
 
 -- the pair that was read at a place, where its name is the one that is looked for
 pub HoldsName-read : (pairs : Pairs) (place : ℕ) (id : ObjectId) (pair : ObjectId × Object) → AreApart pairs → pair ≡ get_or pairs place pair → place < length pairs → (test : Bool) → test ≡ is_same id pair.0 → test ≡ true → HoldsName pairs place id
-HoldsName-read pairs place id pair a is low test s t =
+HoldsName-read pairs place id pair apart is low test s t =
     let x : id ≡ pair.0 = is_same-one id pair.0 (sym s ∙ t) in
-    let h : slice_get pairs place ≡ Some (id, pair.1) =
+    let there : slice_get pairs place ≡ Some (id, pair.1) =
     slice_get_read pairs (length pairs) place pair refl low is ∙ ap (λ n. Some (n, pair.1)) (sym x) in
-    (low, (pair.1, h, get_at pairs place id pair.1 a h))
+    (low, (pair.1, there, get_at pairs place id pair.1 apart there))
 
 -- What a heap is seen as, where its pairs and its room are known. The pair is one that was read at the place of a name.
-module _ (pairs : Pairs) (room : ℕ) (view : HeapView) (seen : view_of pairs room ≡ view) (a : AreApart pairs) where
+module _ (pairs : Pairs) (room : ℕ) (view : HeapView) (seen : view_of pairs room ≡ view) (apart : AreApart pairs) where
   seen_objects : from_entries {R = id_cmp} pairs ≡ view.objects
   seen_objects = ap (λ v. v.objects) seen
 
@@ -176,7 +141,7 @@ module _ (pairs : Pairs) (room : ℕ) (view : HeapView) (seen : view_of pairs ro
   seen_spare = ap (λ v. v.spare) seen
 
   pub len-seen : len view.objects ≡ length pairs
-  len-seen = ap len (sym seen_objects) ∙ len-apart pairs a
+  len-seen = ap len (sym seen_objects) ∙ len-apart pairs apart
 
   pub get-seen_absent : (id : ObjectId) → get (from_entries {R = id_cmp} pairs) id ≡ None → get view.objects id ≡ None
   get-seen_absent id none = ap (λ n. get n id) (sym seen_objects) ∙ none
@@ -185,7 +150,7 @@ module _ (pairs : Pairs) (room : ℕ) (view : HeapView) (seen : view_of pairs ro
   find-seen_absent id none = sym (get-from_entries id_cmp_total pairs id) ∙ ap (λ n. get n id) seen_objects ∙ none
 
   pub AreApart-put : (id : ObjectId) (object : Object) → get view.objects id ≡ None → AreApart (pairs ++ (id, object) ∷ [])
-  AreApart-put id object none = AreApart-push pairs id object a (find-seen_absent id none)
+  AreApart-put id object none = AreApart-push pairs id object apart (find-seen_absent id none)
 
   pub objects-put : (id : ObjectId) (object : Object) → get view.objects id ≡ None → from_entries {R = id_cmp} (pairs ++ (id, object) ∷ []) ≡ insert view.objects id object
   objects-put id object none =
@@ -212,20 +177,20 @@ module _ (pairs : Pairs) (room : ℕ) (view : HeapView) (seen : view_of pairs ro
     seen-changed f =
         let objects : from_entries {R = id_cmp} (set pairs place (pair.0, f pair.1)) ≡ changed_object view.objects id f =
         ap (λ (y : ObjectId × Object). from_entries {R = id_cmp} (set pairs place (y.0, f y.1))) held-pair
-        ∙ map-changed pairs place id at.1.0 f a at.1.1
+        ∙ map-changed pairs place id at.1.0 f apart at.1.1
         ∙ ap (λ n. changed_object n id f) seen_objects in
         λ j. record { objects = objects j; spare = seen_spare j }
 
     pub AreApart-changed : (f : Object → Object) → AreApart (set pairs place (pair.0, f pair.1))
     AreApart-changed f =
-        subst (λ (y : ObjectId × Object). AreApart (set pairs place (y.0, f y.1))) (sym held-pair) (AreApart-set pairs place id at.1.0 (f at.1.0) a at.1.1)
+        subst (λ (y : ObjectId × Object). AreApart (set pairs place (y.0, f y.1))) (sym held-pair) (AreApart-set pairs place id at.1.0 (f at.1.0) apart at.1.1)
 
     pub seen-same : (f : Object → Object) → f pair.1 ≡ pair.1 → view_of (set pairs place (pair.0, f pair.1)) room ≡ view
     seen-same f same =
         seen-changed f ∙ (λ j. record view { objects = changed_object-same view.objects id pair.1 f get-held same j })
 
     pub objects-removed : from_entries {R = id_cmp} (remove pairs place) ≡ map.remove view.objects id
-    objects-removed = map-remove pairs place id at.1.0 a at.1.1 ∙ ap (λ n. map.remove n id) seen_objects
+    objects-removed = map-remove pairs place id at.1.0 apart at.1.1 ∙ ap (λ n. map.remove n id) seen_objects
 
     pub AreApart-removed : AreApart (remove pairs place)
-    AreApart-removed = AreApart-remove pairs place id at.1.0 a at.1.1
+    AreApart-removed = AreApart-remove pairs place id at.1.0 apart at.1.1

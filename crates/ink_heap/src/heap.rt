@@ -1,5 +1,5 @@
 //! The heap: a vector of pairs that is searched from its start.
-ghost use Rattle.std.specs.Prelude.{◌≡◌, ◌+◌, ◌<◌, ◌≤◌, ◌^◌, length, Option, IsOk, IsSome, IfErr, IfNone, IfSome, OnErr, OnOk, OnSome};
+ghost use Rattle.std.specs.Prelude.{◌≡◌, ◌+◌, ◌<◌, ◌≤◌, ◌^◌, ◌↔◌, length, Option, IsOk, IsSome, IsTrue, IfErr, IfNone, IfSome, OnErr, OnOk, OnSome};
 ghost use Rattle.std.specs.Bool.{OnFalse, OnTrue};
 ghost use Rattle.std.specs.Option.{option_and_then, option_copied, option_map};
 ghost use Rattle.std.specs.FinMap as map;
@@ -54,6 +54,13 @@ impl Heap {
         ensures { result ≡ map.len self.now.objects }
     {
         self.pairs.len() as u64
+    }
+
+    /// Whether there are none.
+    pub fn is_empty(&self) -> bool
+        ensures { IsTrue result ↔ (map.len self.now.objects ≡ 0) }
+    {
+        self.len() == 0
     }
 
     /// Puts a new object under a name that no object has. It has no borrows.

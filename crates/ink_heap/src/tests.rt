@@ -91,7 +91,7 @@ fn borrows(rt: HostRuntime) -> Result<(), Fail> {
     let fields = heap.free(&id).ok().ok_or("still there")?;
     assert_eq!(rt; fields.len(), 2);
     assert!(rt; is_int(fields.get(1), 6));
-    assert_eq!(rt; heap.len(), 0);
+    assert!(rt; heap.is_empty());
     Ok(())
 }
 

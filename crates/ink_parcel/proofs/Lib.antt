@@ -1,2 +1,3 @@
 pub mod MovesLemmas
+pub mod PartsLemmas
 pub mod PutLemmas

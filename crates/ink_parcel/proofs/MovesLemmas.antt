@@ -1,13 +1,13 @@
 -- Moving objects out of a heap: one, several after one another, and all of a tree.
-use Rattle.std.proofs.Common.{◌≡◌, ℕ, zero, suc, ◌+◌, ◌-◌, ◌<◌, ◌≤◌, Bool, true, false, cond, Option, Some, None, List, [], ◌∷◌, ◌++◌, length, refl, sym, ap, ◌∙◌, subst, arith, append_assoc, append-nil, length-append, below_more, inl, inr, get_or, take}
+use Rattle.std.proofs.Common.{◌≡◌, ℕ, zero, suc, ◌+◌, ◌-◌, ◌<◌, Bool, true, false, cond, Option, Some, None, List, [], ◌∷◌, ◌++◌, length, refl, sym, ap, ◌∙◌, subst, arith, append_assoc, append-nil, length-append, below_more, inl, inr, get_or, take}
 use Rattle.std.proofs.lemmas.List.{take_more}
 use Rattle.std.proofs.Math.Seq.{take-length}
 use Rattle.std.proofs.lemmas.List.Elements.{Contains-push_cases}
-use Rattle.std.specs.Prelude.{◌↔◌, Contains, IsSome}
+use Rattle.std.specs.Prelude.{Contains, IsSome}
 use Rattle.std.specs.List.{slice_get}
 use Rattle.std.specs.Option.{is_some, option_map_or}
 use Rattle.std.proofs.lemmas.Option.{none-some, same_Some, slice_get_within, slice_get-get_or, slice_get_read, get_or_from_slice_get}
-use Rattle.std.specs.FinMap.{find, from_entries, get, len, remove, get-from_entries, get-remove, get-empty, len-remove, empty, empty_of_len, same_map}
+use Rattle.std.specs.FinMap.{find, from_entries, get, len, remove, get-from_entries, get-remove, get-empty, len-remove, empty_of_len, same_map}
 use Rattle.ink_base.specs.declared.ident.ObjectId.{ObjectId}
 use Rattle.ink_base.specs.declared.value.Value.{Value}
 use Rattle.ink_base.specs.declared.value.Value.TheVariants.{Own, Nil}
@@ -18,7 +18,8 @@ use Rattle.ink_base.specs.declared.object.Object.{Object}
 use Rattle.ink_base.specs.Objects.{Objects, fields_in}
 use Rattle.ink_heap.specs.Pairs.{Pairs, AreApart}
 use Rattle.ink_heap.specs.View.{HeapView}
-use Rattle.ink_heap.proofs.PairsLemmas.{is_same, is_same-itself, is_same-one, find_at}
+use Rattle.ink_heap.proofs.ObjectsLemmas.{is_same, is_same-itself, is_same-one}
+use Rattle.ink_heap.proofs.PairsLemmas.{find_at}
 use Rattle.ink_parcel.specs.Parts.{IsSplit, Splits, HoldsTree}
 use Rattle.ink_parcel.specs.Moves.{CanBePut, SplitsOff, Moves, AreGone, fields_at, HaveBeenLookedAt}
 

@@ -1,5 +1,5 @@
 -- Putting the objects of some pairs into a heap, the last one first.
-use Rattle.std.proofs.Common.{◌≡◌, Bool, true, false, cond, Option, Some, None, List, [], ◌∷◌, ◌++◌, refl, sym, ap, ◌∙◌, subst}
+use Rattle.std.proofs.Common.{◌≡◌, Bool, true, false, cond, Option, Some, None, [], ◌∷◌, ◌++◌, refl, sym, ap, ◌∙◌, subst}
 use Rattle.std.specs.Prelude.{IsSome}
 use Rattle.std.proofs.lemmas.Option.{none-some}
 use Rattle.std.specs.FinMap.{find, from_entries, get, insert, get-from_entries, get-insert}
@@ -9,7 +9,7 @@ use Rattle.ink_base.proofs.IdentLemmas.{id_cmp_total}
 use Rattle.ink_base.specs.declared.object.Object.{Object}
 use Rattle.ink_base.specs.Objects.{Objects}
 use Rattle.ink_heap.specs.Pairs.{Pairs, AreApart}
-use Rattle.ink_heap.proofs.PairsLemmas.{is_same, is_same-itself, is_same-turned, is_same-one}
+use Rattle.ink_heap.proofs.ObjectsLemmas.{is_same, is_same-itself, is_same-turned, is_same-one}
 use Rattle.ink_parcel.specs.Parts.{AreApartFrom, IsSplit, Splits}
 use Rattle.ink_parcel.specs.Moves.{CanBePut, SplitsOff}
 use Rattle.ink_parcel.proofs.MovesLemmas.{first_some, find-append_all}

@@ -8,6 +8,8 @@ mod cutting;
 mod fault;
 mod joining;
 mod parcel;
+#[cfg(test)]
+mod tests;
 mod tree;
 
 pub use cutting::cut;

@@ -44,7 +44,7 @@ impl Parcel {
     }
 
     /// How many objects there are.
-    pub fn len(&self) -> u64
+    pub fn object_count(&self) -> u64
         ensures { result ≡ len self.now.objects }
     {
         self.objects.len() as u64

@@ -1,4 +1,4 @@
-use Rattle.std.proofs.Common.{◌≡◌, ◌++◌, ap, ◌∙◌}
+use Rattle.std.proofs.Common.{◌++◌, ap, ◌∙◌}
 use Rattle.ink_code.specs.Listing.{numbers_text}
 use Rattle.ink_code.proofs.ListingLemmas.{one_more_written}
 use Rattle.ink_code.proofs.lines.put_before.Goals as goal

@@ -1,4 +1,4 @@
-use Rattle.std.proofs.Common.{◌≡◌, [], ap, sym, ◌∙◌, subst, arith}
+use Rattle.std.proofs.Common.{[], subst}
 use Rattle.ink_base.specs.Tree.{InTree}
 use Rattle.ink_base.specs.Objects.{fields_in}
 use Rattle.ink_parcel.specs.Moves.{Moves, AreGone}

@@ -1,4 +1,4 @@
-use Rattle.std.proofs.Common.{◌≡◌, length, ap, sym, ◌∙◌, subst, arith}
+use Rattle.std.proofs.Common.{ap, sym, ◌∙◌, subst, arith}
 use Rattle.std.specs.FinMap.{from_entries, len}
 use Rattle.ink_heap.proofs.PairsLemmas.{len-apart}
 use Rattle.ink_parcel.specs.Moves.{CanBePut}

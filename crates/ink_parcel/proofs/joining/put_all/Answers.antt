@@ -1,9 +1,9 @@
-use Rattle.std.proofs.Common.{◌≡◌, ◌+◌, List, [], ◌∷◌, ◌++◌, length, ap, sym, ◌∙◌, subst, arith, length-append}
+use Rattle.std.proofs.Common.{◌≡◌, ◌+◌, List, [], ◌∷◌, length, ap, sym, ◌∙◌, subst, arith, length-append}
 use Rattle.std.specs.Prelude.{IsSome}
 use Rattle.ink_base.specs.declared.ident.ObjectId.{ObjectId}
 use Rattle.ink_base.specs.declared.object.Object.{Object}
 use Rattle.ink_parcel.specs.Moves.{CanBePut}
-use Rattle.ink_parcel.proofs.PutLemmas.{whole_of, absent_last, CanBePut-last, whole_of-last, SplitsOff-put}
+use Rattle.ink_parcel.proofs.PutLemmas.{whole_of, absent_last, CanBePut-last, whole_of-last}
 use Rattle.ink_parcel.proofs.joining.put_all.Goals as goal
 
 pub unreachable-requires : goal.unreachable-requires

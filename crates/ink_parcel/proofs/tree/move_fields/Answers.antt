@@ -2,7 +2,7 @@ use Rattle.std.proofs.Common.{◌≡◌, ◌<◌, [], length, ap, sym, ◌∙◌
 use Rattle.std.specs.List.{slice_get}
 use Rattle.ink_base.specs.declared.ident.ObjectId.{ObjectId}
 use Rattle.ink_base.specs.declared.value.Value.TheVariants.{Own}
-use Rattle.ink_parcel.specs.Moves.{OwnedAt, fields_at}
+use Rattle.ink_parcel.specs.Moves.{fields_at}
 use Rattle.ink_parcel.proofs.MovesLemmas.{Moves-none, Moves-among, Moves-then, Moves-longer, AreGone-moved, AreGone-other, AreGone-all, owned_name, owns_none, fields_at-then, fields_at-read}
 use Rattle.ink_parcel.proofs.tree.move_fields.Goals as goal
 use Rattle.ink_parcel.proofs.tree.move_fields.Goals.{in-Some+in_ok-move_object, in_default}

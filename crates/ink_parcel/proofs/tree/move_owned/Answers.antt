@@ -1,4 +1,4 @@
-use Rattle.std.proofs.Common.{◌≡◌, ◌<◌, length, ap, sym, ◌∙◌, refl, arith, Some}
+use Rattle.std.proofs.Common.{◌<◌, length, ap, sym, ◌∙◌, refl, arith, Some}
 use Rattle.std.proofs.lemmas.Option.{same_Some, slice_get_read}
 use Rattle.ink_parcel.proofs.MovesLemmas.{Moves-among, Moves-then, AreGone-moved, AreGone-other, AreGone-all, owned_name}
 use Rattle.ink_parcel.proofs.tree.move_owned.Goals as goal

@@ -1,4 +1,4 @@
-use Rattle.std.proofs.Common.{◌<◌, [], length, subst, arith}
+use Rattle.std.proofs.Common.{◌<◌, length, subst, arith}
 use Rattle.ink_base.specs.Tree.{InTree, owned}
 use Rattle.ink_base.specs.Objects.{fields_in}
 use Rattle.ink_parcel.specs.Moves.{Moves}

@@ -1,7 +1,5 @@
-use Rattle.std.proofs.Common.{◌≡◌, ◌<◌, ◌^◌, refl, ap, sym, ◌∙◌, subst, arith, Some}
-use Rattle.std.specs.Option.{IfSome}
-use Rattle.ink_base.specs.Objects.{with_field, with_more, without_last, counted_up, counted_down}
-use Rattle.ink_heap.proofs.PairsLemmas.{len-seen, get-seen_absent, seen-absent, get-held, held-pair, seen-changed, AreApart-changed, objects-removed, AreApart-removed, objects-put, AreApart-put}
+use Rattle.ink_base.specs.Objects.{counted_down}
+use Rattle.ink_heap.proofs.PairsLemmas.{seen-changed, AreApart-changed}
 use Rattle.ink_heap.proofs.heap.Heap.count_down.Goals as goal
 
 pub invariant_of-self : goal.invariant_of-self

@@ -1,7 +1,7 @@
-use Rattle.std.proofs.Common.{◌≡◌, ◌<◌, ◌^◌, refl, ap, sym, ◌∙◌, subst, arith, rules, Some}
+use Rattle.std.proofs.Common.{◌<◌, ◌^◌, subst, rules}
 use Rattle.std.specs.Option.{IfSome}
-use Rattle.ink_base.specs.Objects.{with_field, with_more, without_last, counted_up, counted_down}
-use Rattle.ink_heap.proofs.PairsLemmas.{len-seen, get-seen_absent, seen-absent, get-held, held-pair, seen-changed, AreApart-changed, objects-removed, AreApart-removed, objects-put, AreApart-put}
+use Rattle.ink_base.specs.Objects.{counted_up}
+use Rattle.ink_heap.proofs.PairsLemmas.{seen-absent, get-held, seen-changed, AreApart-changed}
 use Rattle.ink_heap.proofs.heap.Heap.count_up.Goals as goal
 
 pub returns-in-None-clause-after : goal.returns-in-None-clause-after

@@ -1,8 +1,4 @@
-use Rattle.std.proofs.Common.{◌≡◌, ◌<◌, ◌^◌, refl, ap, sym, ◌∙◌, subst, arith, Some}
-use Rattle.std.specs.Option.{option_and_then}
-use Rattle.std.specs.List.{slice_get}
-use Rattle.ink_base.specs.Objects.{with_field, with_more, without_last, counted_up, counted_down}
-use Rattle.ink_heap.proofs.PairsLemmas.{len-seen, get-seen_absent, seen-absent, get-held, held-pair, seen-changed, seen-same, AreApart-changed, objects-removed, AreApart-removed, objects-put, AreApart-put}
+use Rattle.ink_heap.proofs.PairsLemmas.{get-held, seen-changed, AreApart-changed}
 use Rattle.ink_heap.proofs.FieldsLemmas.{with_fields, IsPopAnswer-fields}
 use Rattle.ink_heap.proofs.heap.Heap.pop.Goals as goal
 

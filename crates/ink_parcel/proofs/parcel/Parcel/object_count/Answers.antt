@@ -1,7 +1,7 @@
 use Rattle.std.proofs.Common.{◌∙◌, ap, sym, arith}
 use Rattle.std.specs.FinMap.{len}
 use Rattle.ink_heap.proofs.PairsLemmas.{len-apart}
-use Rattle.ink_parcel.proofs.parcel.Parcel.len.Goals as goal
+use Rattle.ink_parcel.proofs.parcel.Parcel.object_count.Goals as goal
 
 pub returns : goal.returns
 returns c =
