@@ -2,6 +2,7 @@
 //!
 //! A field that holds a list is of this type, so that a contract sees it as a list.
 ghost use Rattle.std.specs.Prelude.{◌≡◌, ◌<◌, ◌↔◌, [], ◌∷◌, ◌++◌, length, slice_get, slice_set, IsTrue, IfErr, MatchOption, OnOk, OnErr, Some};
+ghost use Rattle.std.specs.List.{swap};
 ghost use Rattle.std.specs.Option.{option_copied};
 
 use std::alloc::{AllocFailed, Global};
@@ -81,6 +82,15 @@ impl<T> Items<T> {
         ensures after { self.new ≡ slice_set self.old place item }
     {
         mem::replace(&mut self.items[place as usize], item)
+    }
+
+    /// Two items change places.
+    pub fn swap(&mut self, one: u64, other: u64)
+        requires one { one < length self.old }
+        requires other { other < length self.old }
+        ensures { self.new ≡ swap self.old one other }
+    {
+        self.items.swap(one as usize, other as usize);
     }
 
     /// Puts an item at the end. Where there is no memory for it, it comes back and the list stays.

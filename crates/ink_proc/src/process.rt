@@ -1,0 +1,83 @@
+//! One process.
+ghost use Rattle.std.specs.Prelude.{◌≡◌, reverse, IfErr, IfOk};
+ghost use Rattle.ink_proc.specs.Starts.{CanStart, started};
+ghost use Rattle.ink_proc.specs.State.{state_of};
+
+use crate::fault::StartFault;
+use crate::frames::Frames;
+use crate::pending::Pending;
+use ink_base::ObjectId;
+use ink_code::Frame;
+use ink_heap::Heap;
+use std::alloc::Global;
+
+/// A process.
+#[derive(Debug, Drop)]
+pub struct Proc {
+    pub number: u32,
+    pub kind: u32,
+    /// How many objects it made, its state among them.
+    pub made: u64,
+    pub frames: Frames,
+    pub heap: Heap,
+    /// The values that wait to be dropped.
+    pub pending: Pending,
+    /// How many steps it made since its last action.
+    pub ran: u64,
+}
+
+impl Proc {
+    /// A process that waits for its first message, with room for a frame. Without memory the objects come back.
+    pub fn start(
+        alloc: Global,
+        number: u32,
+        kind: u32,
+        heap: Heap,
+        state: ObjectId,
+    ) -> Result<Proc, StartFault>
+        requires { CanStart number state heap.objects }
+        ensures process { IfOk result (λ process. state_of process ≡ started number kind heap.objects) }
+        ensures back { IfErr result (λ fault. fault ≡ StartFault.OutOfMemory heap) }
+    {
+        let Ok(frames) = Frames::with_capacity(alloc, 1) else {
+            return Err(StartFault::OutOfMemory(heap));
+        };
+        Ok(Proc {
+            number,
+            kind,
+            made: state.serial,
+            frames,
+            heap,
+            pending: Pending::new(alloc),
+            ran: 0,
+        })
+    }
+
+    /// Its number.
+    pub fn number(&self) -> u32
+        ensures { result ≡ self.now.number }
+    {
+        self.number
+    }
+
+    /// The number of its type.
+    pub fn kind(&self) -> u32
+        ensures { result ≡ self.now.kind }
+    {
+        self.kind
+    }
+
+    /// How many steps it made since its last action.
+    pub fn ran(&self) -> u64
+        ensures { result ≡ self.now.ran }
+    {
+        self.ran
+    }
+
+    /// Its frames, with the outermost in front.
+    pub fn frames(&self) -> &[Frame]
+        ensures { reverse result.now ≡ self.now.frames }
+    {
+        self.frames.as_slice()
+    }
+}

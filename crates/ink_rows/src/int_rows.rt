@@ -1,0 +1,234 @@
+//! The rows of Int.
+#![tactic(auto, unfolding(ink_code::specs::Machine::after))]
+
+ghost use Rattle.std.specs.Prelude.{◌≡◌};
+ghost use Rattle.ink_code.specs.IntRows.{int_to_string_row, add_row, subtract_row, multiply_row, divide_row, rest_row, equal_row, unequal_row, less_row, at_most_row, greater_row, at_least_row, bit_and_row, bit_or_row, bit_xor_row, int_rows};
+ghost use Rattle.ink_rows.specs.Answers.{Answers, TakesNoMemory};
+
+use crate::computed::{Computed, RowFault};
+use crate::divided::{floor_quotient, floor_rest};
+use crate::operands::{int_of, pair, single};
+use crate::shifts::{shift_down, shift_up};
+use ink_base::{Text, Value};
+use ink_code::Wrong;
+use itoa::Buffer;
+use std::alloc::Global;
+
+/// The sum of two Ints. A panic where it is no Int.
+#[tactic(auto, using(crate::proofs::IntLemmas::fits_is_int, crate::proofs::IntLemmas::unfit_is_no_int), unfolding(ink_code::specs::Machine::after, ink_code::specs::IntRows::add_row))]
+fn add(alloc: Global, values: &[Value]) -> Result<Computed, RowFault>
+    ensures { Answers result (add_row values.now) }
+{
+    let (one, other) = pair(values)?;
+    let a = int_of(one)?;
+    let b = int_of(other)?;
+    match a.checked_add(b) {
+        Some(number) => Ok(Computed::Gives(Value::Int(number))),
+        None => Ok(Computed::Raises(Text::of(alloc, b"integer overflow")?)),
+    }
+}
+
+/// A number less another. A panic where it is no Int.
+#[tactic(auto, using(crate::proofs::IntLemmas::fits_is_int, crate::proofs::IntLemmas::unfit_is_no_int), unfolding(ink_code::specs::Machine::after, ink_code::specs::IntRows::subtract_row))]
+fn subtract(alloc: Global, values: &[Value]) -> Result<Computed, RowFault>
+    ensures { Answers result (subtract_row values.now) }
+{
+    let (one, other) = pair(values)?;
+    let a = int_of(one)?;
+    let b = int_of(other)?;
+    match a.checked_sub(b) {
+        Some(number) => Ok(Computed::Gives(Value::Int(number))),
+        None => Ok(Computed::Raises(Text::of(alloc, b"integer overflow")?)),
+    }
+}
+
+/// The product of two Ints. A panic where it is no Int.
+#[tactic(auto, using(crate::proofs::IntLemmas::fits_is_int, crate::proofs::IntLemmas::unfit_is_no_int), unfolding(ink_code::specs::Machine::after, ink_code::specs::IntRows::multiply_row))]
+fn multiply(alloc: Global, values: &[Value]) -> Result<Computed, RowFault>
+    ensures { Answers result (multiply_row values.now) }
+{
+    let (one, other) = pair(values)?;
+    let a = int_of(one)?;
+    let b = int_of(other)?;
+    match a.checked_mul(b) {
+        Some(number) => Ok(Computed::Gives(Value::Int(number))),
+        None => Ok(Computed::Raises(Text::of(alloc, b"integer overflow")?)),
+    }
+}
+
+/// A number by another, rounded down. A panic where the other is 0, and where the quotient is no Int.
+#[tactic(auto, using(crate::proofs::IntLemmas::fits_is_int, crate::proofs::IntLemmas::unfit_is_no_int), unfolding(ink_code::specs::Machine::after, ink_code::specs::IntRows::divide_row))]
+fn divide(alloc: Global, values: &[Value]) -> Result<Computed, RowFault>
+    ensures { Answers result (divide_row values.now) }
+{
+    let (one, other) = pair(values)?;
+    let a = int_of(one)?;
+    let b = int_of(other)?;
+    if b == 0 {
+        return Ok(Computed::Raises(Text::of(alloc, b"division by zero")?));
+    }
+    match floor_quotient(a, b) {
+        Some(number) => Ok(Computed::Gives(Value::Int(number))),
+        None => Ok(Computed::Raises(Text::of(alloc, b"integer overflow")?)),
+    }
+}
+
+/// What is left beside that quotient. A panic where the other number is 0.
+#[tactic(auto, using(crate::proofs::IntLemmas::fits_is_int, crate::proofs::IntLemmas::unfit_is_no_int), unfolding(ink_code::specs::Machine::after, ink_code::specs::IntRows::rest_row))]
+fn rest(alloc: Global, values: &[Value]) -> Result<Computed, RowFault>
+    ensures { Answers result (rest_row values.now) }
+{
+    let (one, other) = pair(values)?;
+    let a = int_of(one)?;
+    let b = int_of(other)?;
+    if b == 0 {
+        return Ok(Computed::Raises(Text::of(alloc, b"division by zero")?));
+    }
+    Ok(Computed::Gives(Value::Int(floor_rest(a, b))))
+}
+
+/// Whether two Ints are the same.
+#[tactic(auto, unfolding(ink_code::specs::Machine::after, ink_code::specs::IntRows::equal_row))]
+fn equal(values: &[Value]) -> Result<Computed, RowFault>
+    ensures answer { Answers result (equal_row values.now) }
+    ensures memory { TakesNoMemory result }
+{
+    let (one, other) = pair(values)?;
+    let a = int_of(one)?;
+    let b = int_of(other)?;
+    Ok(Computed::Gives(Value::Bool(a == b)))
+}
+
+/// Whether two Ints differ.
+#[tactic(auto, unfolding(ink_code::specs::Machine::after, ink_code::specs::IntRows::unequal_row))]
+fn unequal(values: &[Value]) -> Result<Computed, RowFault>
+    ensures answer { Answers result (unequal_row values.now) }
+    ensures memory { TakesNoMemory result }
+{
+    let (one, other) = pair(values)?;
+    let a = int_of(one)?;
+    let b = int_of(other)?;
+    Ok(Computed::Gives(Value::Bool(a != b)))
+}
+
+/// Whether a number is below another.
+#[tactic(auto, unfolding(ink_code::specs::Machine::after, ink_code::specs::IntRows::less_row))]
+fn less(values: &[Value]) -> Result<Computed, RowFault>
+    ensures answer { Answers result (less_row values.now) }
+    ensures memory { TakesNoMemory result }
+{
+    let (one, other) = pair(values)?;
+    let a = int_of(one)?;
+    let b = int_of(other)?;
+    Ok(Computed::Gives(Value::Bool(a < b)))
+}
+
+/// Whether a number is below another or the same.
+#[tactic(auto, unfolding(ink_code::specs::Machine::after, ink_code::specs::IntRows::at_most_row))]
+fn at_most(values: &[Value]) -> Result<Computed, RowFault>
+    ensures answer { Answers result (at_most_row values.now) }
+    ensures memory { TakesNoMemory result }
+{
+    let (one, other) = pair(values)?;
+    let a = int_of(one)?;
+    let b = int_of(other)?;
+    Ok(Computed::Gives(Value::Bool(a <= b)))
+}
+
+/// Whether a number is above another.
+#[tactic(auto, unfolding(ink_code::specs::Machine::after, ink_code::specs::IntRows::greater_row))]
+fn greater(values: &[Value]) -> Result<Computed, RowFault>
+    ensures answer { Answers result (greater_row values.now) }
+    ensures memory { TakesNoMemory result }
+{
+    let (one, other) = pair(values)?;
+    let a = int_of(one)?;
+    let b = int_of(other)?;
+    Ok(Computed::Gives(Value::Bool(a > b)))
+}
+
+/// Whether a number is above another or the same.
+#[tactic(auto, unfolding(ink_code::specs::Machine::after, ink_code::specs::IntRows::at_least_row))]
+fn at_least(values: &[Value]) -> Result<Computed, RowFault>
+    ensures answer { Answers result (at_least_row values.now) }
+    ensures memory { TakesNoMemory result }
+{
+    let (one, other) = pair(values)?;
+    let a = int_of(one)?;
+    let b = int_of(other)?;
+    Ok(Computed::Gives(Value::Bool(a >= b)))
+}
+
+/// The bits that are set in both.
+#[tactic(auto, unfolding(ink_code::specs::Machine::after, ink_code::specs::IntRows::bit_and_row))]
+fn bit_and(values: &[Value]) -> Result<Computed, RowFault>
+    ensures answer { Answers result (bit_and_row values.now) }
+    ensures memory { TakesNoMemory result }
+{
+    let (one, other) = pair(values)?;
+    let a = int_of(one)?;
+    let b = int_of(other)?;
+    Ok(Computed::Gives(Value::Int(a & b)))
+}
+
+/// The bits that are set in one or both.
+#[tactic(auto, unfolding(ink_code::specs::Machine::after, ink_code::specs::IntRows::bit_or_row))]
+fn bit_or(values: &[Value]) -> Result<Computed, RowFault>
+    ensures answer { Answers result (bit_or_row values.now) }
+    ensures memory { TakesNoMemory result }
+{
+    let (one, other) = pair(values)?;
+    let a = int_of(one)?;
+    let b = int_of(other)?;
+    Ok(Computed::Gives(Value::Int(a | b)))
+}
+
+/// The bits that are set in one alone.
+#[tactic(auto, unfolding(ink_code::specs::Machine::after, ink_code::specs::IntRows::bit_xor_row))]
+fn bit_xor(values: &[Value]) -> Result<Computed, RowFault>
+    ensures answer { Answers result (bit_xor_row values.now) }
+    ensures memory { TakesNoMemory result }
+{
+    let (one, other) = pair(values)?;
+    let a = int_of(one)?;
+    let b = int_of(other)?;
+    Ok(Computed::Gives(Value::Int(a ^ b)))
+}
+
+/// The text of an Int: its decimal digits, with a sign where it is negative.
+#[tactic(auto, unfolding(ink_code::specs::Machine::after, ink_code::specs::IntRows::int_to_string_row))]
+fn to_string(alloc: Global, values: &[Value]) -> Result<Computed, RowFault>
+    ensures { Answers result (int_to_string_row values.now) }
+{
+    let number = int_of(single(values)?)?;
+    let mut buffer = Buffer::new();
+    let text = Text::of(alloc, buffer.format(number).as_bytes())?;
+    Ok(Computed::Gives(Value::Txt(text)))
+}
+
+/// What a row of Int comes to, by its number in the table.
+#[tactic(auto, unfolding(ink_code::specs::IntRows::int_rows))]
+pub fn int_row(alloc: Global, row: u32, values: &[Value]) -> Result<Computed, RowFault>
+    ensures { Answers result (int_rows row values.now) }
+{
+    match row {
+        0 => add(alloc, values),
+        1 => subtract(alloc, values),
+        2 => multiply(alloc, values),
+        3 => divide(alloc, values),
+        4 => rest(alloc, values),
+        5 => equal(values),
+        6 => unequal(values),
+        7 => less(values),
+        8 => at_most(values),
+        9 => greater(values),
+        10 => at_least(values),
+        11 => bit_and(values),
+        12 => bit_or(values),
+        13 => bit_xor(values),
+        14 => shift_up(alloc, values),
+        15 => shift_down(alloc, values),
+        16 => to_string(alloc, values),
+        _ => Err(RowFault::Wrong(Wrong::Place)),
+    }
+}

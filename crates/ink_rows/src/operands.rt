@@ -1,0 +1,68 @@
+//! The operands of a row.
+#![tactic(auto, unfolding(ink_code::specs::Machine::after))]
+
+ghost use Rattle.std.specs.Prelude.{◌≡◌, Ok, Err, MatchResult};
+ghost use Rattle.ink_code.specs.Rows.{single, pair, int_of};
+ghost use Rattle.ink_code.specs.Moves.{truth_of, text_of};
+
+use ink_base::{Text, Value};
+use ink_code::Wrong;
+
+/// The one operand.
+pub fn single(values: &[Value]) -> Result<&Value, Wrong>
+    ensures { MatchResult result (λ value. single values.now ≡ Ok value.now) (λ why. single values.now ≡ Err why) }
+{
+    match values.split_first() {
+        None => Err(Wrong::Place),
+        Some((value, others)) => match others.split_first() {
+            None => Ok(value),
+            Some(_) => Err(Wrong::Place),
+        },
+    }
+}
+
+/// The two operands.
+pub fn pair(values: &[Value]) -> Result<(&Value, &Value), Wrong>
+    ensures { MatchResult result (λ both. pair values.now ≡ Ok (both.0.now, both.1.now)) (λ why. pair values.now ≡ Err why) }
+{
+    let Some((one, others)) = values.split_first() else {
+        return Err(Wrong::Place);
+    };
+    let Some((other, more)) = others.split_first() else {
+        return Err(Wrong::Place);
+    };
+    match more.split_first() {
+        None => Ok((one, other)),
+        Some(_) => Err(Wrong::Place),
+    }
+}
+
+/// The number of an Int.
+pub fn int_of(value: &Value) -> Result<i64, Wrong>
+    ensures { result ≡ int_of value.now }
+{
+    match value {
+        Value::Int(number) => Ok(*number),
+        _ => Err(Wrong::Kind),
+    }
+}
+
+/// Whether a Bool is true.
+pub fn truth_of(value: &Value) -> Result<bool, Wrong>
+    ensures { result ≡ truth_of value.now }
+{
+    match value {
+        Value::Bool(truth) => Ok(*truth),
+        _ => Err(Wrong::Kind),
+    }
+}
+
+/// The text of a String.
+pub fn text_of(value: &Value) -> Result<&Text, Wrong>
+    ensures { MatchResult result (λ text. text_of value.now ≡ Ok text.now) (λ why. text_of value.now ≡ Err why) }
+{
+    match value {
+        Value::Txt(text) => Ok(text),
+        _ => Err(Wrong::Kind),
+    }
+}

@@ -1,0 +1,167 @@
+//! The rows of String.
+#![tactic(auto, unfolding(ink_code::specs::Machine::after))]
+
+ghost use Rattle.std.specs.Prelude.{◌≡◌, ◌++◌, codes, IfOk};
+ghost use Rattle.std.specs.Fmt.{signed_decimal};
+ghost use Rattle.ink_base.specs.Panics.{index_text};
+ghost use Rattle.ink_code.specs.Rows.{place_in};
+ghost use Rattle.ink_code.specs.TextRows.{join_row, same_text_row, other_text_row, text_size_row, text_empty_row, byte_row, starts_with_row, text_to_string_row, text_rows};
+ghost use Rattle.ink_rows.specs.Answers.{Answers, TakesNoMemory};
+
+use crate::computed::{Computed, RowFault};
+use crate::operands::{int_of, pair, single, text_of};
+use ink_base::{Limit, Limits, Text, TextFault, Value};
+use ink_code::Wrong;
+use itoa::Buffer;
+use std::alloc::{AllocError, Global};
+
+/// Both texts in order, where that is no longer than the limit.
+#[tactic(auto, unfolding(ink_code::specs::Machine::after, ink_code::specs::TextRows::join_row))]
+fn join(alloc: Global, limits: &Limits, values: &[Value]) -> Result<Computed, RowFault>
+    ensures { Answers result (join_row limits.now values.now) }
+{
+    let (one, other) = pair(values)?;
+    let a = text_of(one)?;
+    let b = text_of(other)?;
+    match a.joined(alloc, b, limits.get(Limit::Text)) {
+        Ok(text) => Ok(Computed::Gives(Value::Txt(text))),
+        Err(TextFault::TooLong(_)) => {
+            Ok(Computed::Raises(Text::of(alloc, b"limit reached: text")?))
+        }
+        Err(TextFault::OutOfMemory) => Err(RowFault::OutOfMemory),
+    }
+}
+
+/// Whether two texts have the same bytes.
+#[tactic(auto, unfolding(ink_code::specs::Machine::after, ink_code::specs::TextRows::same_text_row))]
+fn same(values: &[Value]) -> Result<Computed, RowFault>
+    ensures answer { Answers result (same_text_row values.now) }
+    ensures memory { TakesNoMemory result }
+{
+    let (one, other) = pair(values)?;
+    let a = text_of(one)?;
+    let b = text_of(other)?;
+    Ok(Computed::Gives(Value::Bool(a.bytes() == b.bytes())))
+}
+
+/// Whether two texts have other bytes.
+#[tactic(auto, unfolding(ink_code::specs::Machine::after, ink_code::specs::TextRows::other_text_row))]
+fn differs(values: &[Value]) -> Result<Computed, RowFault>
+    ensures answer { Answers result (other_text_row values.now) }
+    ensures memory { TakesNoMemory result }
+{
+    let (one, other) = pair(values)?;
+    let a = text_of(one)?;
+    let b = text_of(other)?;
+    Ok(Computed::Gives(Value::Bool(a.bytes() != b.bytes())))
+}
+
+/// How many bytes a text has.
+#[tactic(auto, unfolding(ink_code::specs::Machine::after, ink_code::specs::TextRows::text_size_row))]
+fn size(values: &[Value]) -> Result<Computed, RowFault>
+    ensures answer { Answers result (text_size_row values.now) }
+    ensures memory { TakesNoMemory result }
+{
+    let text = text_of(single(values)?)?;
+    Ok(Computed::Gives(Value::Int(text.bytes().len() as i64)))
+}
+
+/// Whether a text has no bytes.
+#[tactic(auto, unfolding(ink_code::specs::Machine::after, ink_code::specs::TextRows::text_empty_row))]
+fn is_empty(values: &[Value]) -> Result<Computed, RowFault>
+    ensures answer { Answers result (text_empty_row values.now) }
+    ensures memory { TakesNoMemory result }
+{
+    let text = text_of(single(values)?)?;
+    Ok(Computed::Gives(Value::Bool(text.bytes().is_empty())))
+}
+
+/// The place that an index names among so many, where it is one of them.
+fn place_in(index: i64, size: usize) -> Option<usize>
+    ensures { result ≡ place_in index size }
+{
+    if index < 0 {
+        return None;
+    }
+    let place = index as usize;
+    if place < size { Some(place) } else { None }
+}
+
+/// How that text begins.
+fn index_named(alloc: Global, index: i64) -> Result<Vec<u8>, AllocError>
+    ensures { IfOk result (λ bytes. bytes.items ≡ codes "index " ++ signed_decimal index) }
+{
+    let mut buffer = Buffer::new();
+    let mut bytes = Vec::from_slice(alloc, b"index ")?;
+    bytes.extend_from_slice(buffer.format(index).as_bytes())?;
+    Ok(bytes)
+}
+
+/// With which text a row panics whose index isn't from 0 to before the size.
+fn index_text(alloc: Global, index: i64, size: usize) -> Result<Text, AllocError>
+    ensures { IfOk result (λ text. text ≡ index_text index size) }
+{
+    let mut buffer = Buffer::new();
+    let mut bytes = index_named(alloc, index)?;
+    bytes.extend_from_slice(b" is out of bounds, size ")?;
+    bytes.extend_from_slice(buffer.format(size).as_bytes())?;
+    Ok(Text::from_bytes(bytes))
+}
+
+/// The byte in a place of a text.
+#[tactic(auto, unfolding(ink_code::specs::Machine::after, ink_code::specs::TextRows::byte_row))]
+fn byte(alloc: Global, values: &[Value]) -> Result<Computed, RowFault>
+    ensures { Answers result (byte_row values.now) }
+{
+    let (one, other) = pair(values)?;
+    let bytes = text_of(one)?.bytes();
+    let index = int_of(other)?;
+    match place_in(index, bytes.len()) {
+        Some(place) => Ok(Computed::Gives(Value::Int(i64::from(bytes[place])))),
+        None => Ok(Computed::Raises(index_text(alloc, index, bytes.len())?)),
+    }
+}
+
+/// Whether a text begins with another.
+#[tactic(auto, unfolding(ink_code::specs::Machine::after, ink_code::specs::TextRows::starts_with_row))]
+fn starts_with(values: &[Value]) -> Result<Computed, RowFault>
+    ensures answer { Answers result (starts_with_row values.now) }
+    ensures memory { TakesNoMemory result }
+{
+    let (one, other) = pair(values)?;
+    let text = text_of(one)?;
+    let front = text_of(other)?;
+    Ok(Computed::Gives(Value::Bool(text.bytes().starts_with(front.bytes()))))
+}
+
+/// The text itself.
+#[tactic(auto, unfolding(ink_code::specs::Machine::after, ink_code::specs::TextRows::text_to_string_row))]
+fn to_string(alloc: Global, values: &[Value]) -> Result<Computed, RowFault>
+    ensures { Answers result (text_to_string_row values.now) }
+{
+    let text = text_of(single(values)?)?;
+    Ok(Computed::Gives(Value::Txt(text.copy(alloc)?)))
+}
+
+/// What a row of String comes to, by its number in the table.
+#[tactic(auto, unfolding(ink_code::specs::TextRows::text_rows))]
+pub fn text_row(
+    alloc: Global,
+    limits: &Limits,
+    row: u32,
+    values: &[Value],
+) -> Result<Computed, RowFault>
+    ensures { Answers result (text_rows limits.now row values.now) }
+{
+    match row {
+        21 => join(alloc, limits, values),
+        22 => same(values),
+        23 => differs(values),
+        24 => size(values),
+        25 => is_empty(values),
+        26 => byte(alloc, values),
+        27 => starts_with(values),
+        28 => to_string(alloc, values),
+        _ => Err(RowFault::Wrong(Wrong::Place)),
+    }
+}

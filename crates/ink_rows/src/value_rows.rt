@@ -1,0 +1,31 @@
+//! The rows that only compute, by number.
+ghost use Rattle.std.specs.Prelude.{◌<◌};
+ghost use Rattle.ink_rows.specs.Answers.{Answers, value_rows};
+
+use crate::bool_rows::bool_row;
+use crate::computed::{Computed, RowFault};
+use crate::int_rows::int_row;
+use crate::text_rows::text_row;
+use ink_base::{Limits, Value};
+use std::alloc::Global;
+
+/// What the row of that number comes to, from the values that were moved to it. The rows from 0 are those of Int, from 17
+/// those of Bool, and from 21 to 28 those of String. Only a text takes memory: one that is given, and that of a panic.
+#[tactic(auto, unfolding(crate::specs::Answers::value_rows))]
+pub fn value_row(
+    alloc: Global,
+    limits: &Limits,
+    row: u32,
+    values: &[Value],
+) -> Result<Computed, RowFault>
+    requires { row < 29 }
+    ensures { Answers result (value_rows limits.now row values.now) }
+{
+    if row < 17 {
+        int_row(alloc, row, values)
+    } else if row < 21 {
+        bool_row(alloc, row, values)
+    } else {
+        text_row(alloc, limits, row, values)
+    }
+}
