@@ -1,5 +1,5 @@
 -- With which objects a process starts, and as what.
-use Rattle.std.specs.Prelude.{◌≡◌, ◌≢◌, ℕ, Some, List, [], IsSome}
+use Rattle.std.specs.Prelude.{◌≡◌, ◌≢◌, ℕ, Some, [], IsSome}
 use Rattle.std.specs.List.{slice_get}
 use Rattle.std.specs.FinMap.{get}
 use Rattle.ink_base.specs.declared.ident.ObjectId.{ObjectId}

@@ -1,4 +1,4 @@
-use Rattle.std.proofs.Common.{◌≡◌, ◌≢◌, ◌<◌, ◌∙◌, length, arith}
+use Rattle.std.proofs.Common.{◌≢◌, ◌<◌, ◌∙◌, length, arith}
 use Rattle.std.proofs.lemmas.List.{length-set}
 use Rattle.ink_base.specs.declared.value.Value.TheVariants.{Empty}
 use Rattle.ink_proc.proofs.MovingLemmas.{given_apart, given_more}

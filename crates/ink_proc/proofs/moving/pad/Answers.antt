@@ -1,6 +1,6 @@
-use Rattle.std.proofs.Common.{◌<◌, ◌≤◌, ap, ◌∙◌, length, arith}
+use Rattle.std.proofs.Common.{◌<◌, ap, ◌∙◌, length, arith}
 use Rattle.ink_code.specs.Process.{padded}
-use Rattle.ink_proc.proofs.MovingLemmas.{padded_next, padded_all}
+use Rattle.ink_proc.proofs.MovingLemmas.{padded_next}
 use Rattle.ink_proc.proofs.moving.pad.Goals as goal
 
 pub loop-values-preserved : goal.loop-values-preserved
