@@ -1,0 +1,159 @@
+//! The instructions that begin and end frames.
+ghost use Rattle.std.specs.Prelude.{◌≡◌, ◌<◌, ◌^◌, slice_get};
+ghost use Rattle.std.specs.Option.{option_copied};
+ghost use Rattle.ink_code.specs.Calls.{first_register, invoke_bound_step, invoke_step, method_in, return_step, target_of};
+ghost use Rattle.ink_code.specs.Process.{held};
+ghost use Rattle.ink_steps.specs.Answers.{Answers};
+ghost use Rattle.ink_proc.specs.State.{state_of};
+
+use crate::reads::{copied, object_of, panic_with};
+use crate::stepped::{StepFault, Stepped};
+use ink_base::{Limit, Limits, Value};
+use ink_code::{Code, Frame, Impl, Instr, Wrong};
+use ink_proc::{EnterFault, Proc};
+use std::alloc::Global;
+
+/// A method is called with the values of registers.
+#[tactic(auto, unfolding(ink_code::specs::Calls::invoke_step, ink_code::specs::Machine::given, ink_code::specs::Machine::unless_text, ink_code::specs::Machine::after))]
+pub fn invoke_step(
+    alloc: Global,
+    proc: &mut Proc,
+    code: &Code,
+    limits: &Limits,
+    to: u32,
+    method: u32,
+    arguments: &[u32],
+) -> Result<Stepped, StepFault>
+    requires { proc.old.ran < 2 ^ 62 }
+    ensures { Answers (invoke_step code.now limits.now to method arguments.now (state_of proc.old)) result (state_of proc.old) (state_of proc.new) }
+{
+    if !proc.frames.has(to) {
+        return Err(StepFault::Wrong(Wrong::Place));
+    }
+    let called = match code.methods.get(u64::from(method)) {
+        None => return Err(StepFault::Wrong(Wrong::Place)),
+        Some(called) => called,
+    };
+    if limits.get(Limit::Frames) <= proc.frames.len() {
+        return panic_with(alloc, b"limit reached: frames");
+    }
+    match proc
+        .frames
+        .enter(alloc, method, called.registers, arguments)
+    {
+        Err(EnterFault::Wrong(why)) => Err(StepFault::Wrong(why)),
+        Err(EnterFault::OutOfMemory) => Err(StepFault::OutOfMemory),
+        Ok(()) => {
+            proc.ran += 1;
+            Ok(Stepped::Went)
+        }
+    }
+}
+
+/// The first of some registers.
+fn first_register(arguments: &[u32]) -> Option<u32>
+    ensures { result ≡ first_register arguments.now }
+{
+    if arguments.is_empty() {
+        None
+    } else {
+        Some(arguments[0])
+    }
+}
+
+/// The method that a type has in a slot, by the first of the impls that tells one.
+#[tactic(auto, unfolding(ink_code::specs::Calls::method_in))]
+fn method_in(impls: &[Impl], kind: u32, slot: u32) -> Option<u32>
+    ensures { result ≡ method_in impls.now kind slot }
+{
+    for told in impls {
+        if told.kind == kind && told.slot == slot {
+            return Some(told.method);
+        }
+    }
+    None
+}
+
+/// The method is called that the type of the first argument's object has in a slot.
+#[tactic(auto, unfolding(ink_code::specs::Calls::invoke_bound_step, ink_code::specs::Objects::object_at, ink_code::specs::Machine::given, ink_code::specs::Machine::after))]
+pub fn invoke_bound_step(
+    alloc: Global,
+    proc: &mut Proc,
+    code: &Code,
+    limits: &Limits,
+    to: u32,
+    slot: u32,
+    arguments: &[u32],
+) -> Result<Stepped, StepFault>
+    requires { proc.old.ran < 2 ^ 62 }
+    ensures { Answers (invoke_bound_step code.now limits.now to slot arguments.now (state_of proc.old)) result (state_of proc.old) (state_of proc.new) }
+{
+    let first = match first_register(arguments) {
+        None => return Err(StepFault::Wrong(Wrong::Place)),
+        Some(first) => first,
+    };
+    let named = copied(alloc, &proc.frames, first)?;
+    let id = object_of(&named)?;
+    let kind = match proc.heap.kind_of(&id) {
+        None => return Err(StepFault::Wrong(Wrong::Object)),
+        Some((kind, _tag)) => kind,
+    };
+    match method_in(code.impls.as_slice(), kind, slot) {
+        None => Err(StepFault::Wrong(Wrong::Place)),
+        Some(method) => invoke_step(alloc, proc, code, limits, to, method, arguments),
+    }
+}
+
+/// The register to which the value of a call goes.
+fn target_of(instr: Option<&Instr>) -> Option<u32>
+    ensures { result ≡ target_of (option_copied instr.entry) }
+{
+    match instr {
+        Some(Instr::Invoke { to, .. }) | Some(Instr::InvokeBound { to, .. }) => Some(*to),
+        _ => None,
+    }
+}
+
+/// The value in a register of a frame that has ended.
+fn value_of(mut frame: Frame, number: u32) -> Result<Value, Wrong>
+    ensures { result ≡ held (slice_get frame.registers number) }
+{
+    match frame.registers.get(u64::from(number)) {
+        None => Err(Wrong::Place),
+        Some(Value::Empty) => Err(Wrong::Empty),
+        Some(_) => Ok(frame.registers.set(u64::from(number), Value::Empty)),
+    }
+}
+
+/// The innermost frame ends with the value of a register.
+#[tactic(auto, unfolding(ink_code::specs::Calls::return_step, ink_code::specs::Machine::given, ink_code::specs::Machine::after))]
+pub fn return_step(proc: &mut Proc, code: &Code, from: u32) -> Result<Stepped, StepFault>
+    requires { proc.old.ran < 2 ^ 62 }
+    ensures { Answers (return_step code.now from (state_of proc.old)) result (state_of proc.old) (state_of proc.new) }
+{
+    let frame = match proc.frames.pop() {
+        None => return Err(StepFault::Wrong(Wrong::Place)),
+        Some(frame) => frame,
+    };
+    let value = match value_of(frame, from) {
+        Err(why) => return Err(StepFault::Wrong(why)),
+        Ok(value) => value,
+    };
+    let outer = match proc.frames.top() {
+        None => {
+            proc.ran += 1;
+            return Ok(Stepped::Went);
+        }
+        Some(outer) => outer,
+    };
+    let next = outer.place;
+    match target_of(code.fetch(outer.method, outer.place)) {
+        None => Err(StepFault::Wrong(Wrong::Place)),
+        Some(to) => {
+            proc.frames.set(to, value);
+            proc.frames.go_on(next + 1);
+            proc.ran += 1;
+            Ok(Stepped::Went)
+        }
+    }
+}
