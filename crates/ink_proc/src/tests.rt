@@ -2,7 +2,6 @@
 use crate::fault::{EnterFault, TakeApartFault, WaitFault};
 use crate::frames::Frames;
 use crate::pending::Pending;
-use crate::process::Proc;
 use ink_base::{Items, ObjectId, Value};
 use ink_code::{Frame, Wrong};
 use ink_heap::Heap;
@@ -101,28 +100,5 @@ fn drops_that_wait(rt: HostRuntime) -> Result<(), Fail> {
     assert!(rt; is_int(pending.first(), 6));
     assert!(rt; matches!(pending.pop(), Some(Value::Int(6))));
     assert!(rt; is_int(pending.first(), 7));
-    Ok(())
-}
-
-#[test]
-#[tactic(auto, using(crate::proofs::StartLemmas::can_start_alone))]
-fn a_process_that_waits(rt: HostRuntime) -> Result<(), Fail> {
-    let mut heap = Heap::new(rt.alloc());
-    let state = ObjectId {
-        process: 3,
-        serial: 1,
-    };
-    if let Err(_) = heap.make(state, 7, 0, Items::new(rt.alloc()), 1) {
-        return Err("no state".into());
-    }
-    match Proc::start(rt.alloc(), 3, 7, heap, state) {
-        Err(_) => assert!(rt; false),
-        Ok(process) => {
-            assert_eq!(rt; process.number(), 3);
-            assert_eq!(rt; process.kind(), 7);
-            assert_eq!(rt; process.ran(), 0);
-            assert!(rt; process.frames().is_empty());
-        }
-    }
     Ok(())
 }

@@ -10,6 +10,8 @@ mod moves;
 mod objects;
 mod reads;
 mod stepped;
+#[cfg(test)]
+mod tests;
 
 pub use calls::{invoke_bound_step, invoke_step, return_step};
 pub use drops::{drop_maybe_step, drop_next, drop_step};
