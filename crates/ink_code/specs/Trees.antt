@@ -30,7 +30,7 @@ pub record Parted : Type 0 where
 abbrev pub take_if : Option Object → ObjectId → List Value → Parted → (List Value → Parted → Result Parted Wrong) → Result Parted Wrong
 take_if None id rest parted further = Err wrong.Object
 take_if (Some object) id rest parted further =
-    further (object.fields ++ rest) (record { left = remove parted.left id; taken = insert parted.taken id object })
+    further (rest ++ object.fields) (record { left = remove parted.left id; taken = insert parted.taken id object })
 
 abbrev pub take_first : Option (ObjectId × List Value) → Parted → (List Value → Parted → Result Parted Wrong) → Result Parted Wrong
 take_first None parted further = Ok parted
@@ -40,8 +40,8 @@ abbrev pub none_owned : Option (ObjectId × List Value) → Parted → Result Pa
 none_owned None parted = Ok parted
 none_owned (Some first) parted = Err wrong.Object
 
--- the objects that values own are taken out, with those that their fields own: each has to be there at its turn, and
--- there are at most so many
+-- the objects that values own are taken out, and then those that the fields of these own: each has to be there at its
+-- turn, and there are at most so many
 unfoldable pub parted_by : ℕ → List Value → Parted → Result Parted Wrong
 parted_by zero values parted = none_owned (first_owned values) parted
 parted_by (suc most) values parted = take_first (first_owned values) parted (λ more parts. parted_by most more parts)
