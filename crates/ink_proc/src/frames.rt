@@ -1,14 +1,15 @@
 //! The frames of a process.
-ghost use Rattle.std.specs.Prelude.{◌≡◌, ◌∷◌, ◌≤◌, ◌&&◌, [], drop, length, reverse, slice_get, is_some, IfErr, IfOk, MatchOption, MatchResult, OnErr, OnOk, Result};
+ghost use Rattle.std.specs.Prelude.{◌≡◌, ◌+◌, ◌∷◌, ◌≤◌, ◌&&◌, [], drop, length, reverse, slice_get, is_some, IfErr, IfOk, List, MatchOption, MatchResult, OnErr, OnOk, Result};
 ghost use Rattle.std.specs.Bool.{MatchBool};
 ghost use Rattle.std.specs.Option.{option_copied};
 ghost use Rattle.std.specs.Vec.{vec_capacity, vec_len};
 ghost use Rattle.ink_base.specs.declared.value.Value.TheVariants.{Empty};
-ghost use Rattle.ink_code.specs.Process.{at_place, held, put_out, register, taken_out, with_register, with_swapped};
+ghost use Rattle.ink_code.specs.declared.frame.Frame.{Frame as OneFrame};
+ghost use Rattle.ink_code.specs.Process.{at_place, entered, held, put_out, register, taken_out, with_register, with_swapped};
 ghost use Rattle.ink_proc.specs.Answers.{IsEnterAnswer, IsMoved, IsPutAnswer};
 
 use crate::fault::EnterFault;
-use crate::moving::{move_in, move_out, pad, take_held};
+use crate::moving::{move_back, move_behind, move_in, move_out, pad};
 use ink_base::{Items, Value};
 use ink_code::{Frame, Wrong};
 use std::alloc::{AllocError, AllocFailed, Global};
@@ -167,12 +168,62 @@ impl Frames {
     pub fn take_out(&mut self, room: Vec<Value>, numbers: &[u32]) -> Result<Items<Value>, Wrong>
         requires empty { room.items ≡ [] }
         requires room { length numbers.now ≤ vec_capacity room }
-        ensures { IsMoved result self.new (taken_out numbers.now self.old) }
+        ensures moved { IsMoved result self.new (taken_out numbers.now self.old) }
+        ensures count { IfOk result (λ values. length values ≡ length numbers.now) }
     {
         match take_from_last(&mut self.items, room, numbers) {
             Err(why) => Err(why),
             Ok(values) => Ok(Items::of(values)),
         }
+    }
+
+    /// Puts values back into the registers of the innermost frame out of which they were moved: the frames are as before.
+    #[tactic(auto, using(crate::proofs::FrontLemmas::front), unfolding(ink_code::specs::Process::taken_out))]
+    pub fn put_back(&mut self, numbers: &[u32], values: Items<Value>)
+        requires { length values ≡ length numbers.now }
+        ensures { (before : List OneFrame) → taken_out numbers.now before ≡ Result.Ok (values, self.old) → self.new ≡ before }
+    {
+        let count = self.items.len();
+        if count > 0 {
+            let frame = &mut self.items[count - 1];
+            move_back(&mut frame.registers, numbers, values);
+        }
+    }
+
+    /// Puts a value back into the register out of which it was taken: the frames are as before.
+    pub fn give_back(&mut self, number: u32, value: Value)
+        ensures { (before : List OneFrame) → held (register before number) ≡ Result.Ok value → self.old ≡ with_register number Empty before → self.new ≡ before }
+    {
+        self.set(number, value);
+    }
+
+    /// The frames of a process in which a method begins: one frame, with a value and others behind it in its first
+    /// registers. It has at least `registers` of them. No memory is taken: the vectors have room for the frame and for
+    /// its registers.
+    pub fn first(
+        mut frames: Vec<Frame>,
+        mut room: Vec<Value>,
+        method: u32,
+        registers: u32,
+        first: Value,
+        others: Items<Value>,
+    ) -> Frames
+        requires none { frames.items ≡ [] }
+        requires one { 1 ≤ vec_capacity frames }
+        requires empty { room.items ≡ [] }
+        requires all { registers ≤ vec_capacity room }
+        requires room { length others + 1 ≤ vec_capacity room }
+        ensures { result ≡ entered method registers (first ∷ others) [] }
+    {
+        room.push_reserved(first);
+        move_behind(&mut room, others);
+        let registers = Items::of(pad(room, registers));
+        frames.push_reserved(Frame {
+            method,
+            place: 0,
+            registers,
+        });
+        Frames { items: frames }
     }
 
     /// Moves values into registers of the innermost frame, each of which has to be there: as many as there are values.
@@ -251,6 +302,7 @@ fn take_from_last(
     ensures moved { MatchResult result
         (λ values. taken_out numbers.now (reverse items.old.items) ≡ Result.Ok (values.items, reverse items.new.items))
         (λ why. taken_out numbers.now (reverse items.old.items) ≡ Result.Err why) }
+    ensures values { IfOk result (λ values. vec_len values ≡ length numbers.now) }
     ensures room { IfOk result (λ values. vec_capacity room ≤ vec_capacity values) }
     ensures count { vec_len items.new ≡ vec_len items.old }
     ensures capacity { vec_capacity items.new ≡ vec_capacity items.old }

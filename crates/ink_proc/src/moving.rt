@@ -1,6 +1,7 @@
 //! Values that are moved out of registers and into them.
-ghost use Rattle.std.specs.Prelude.{◌≡◌, ◌≤◌, [], ◌∷◌, length, slice_get, slice_set, IfOk, MatchResult, OnErr, OnOk, Result};
-ghost use Rattle.std.specs.Vec.{vec_capacity};
+ghost use Rattle.std.specs.Prelude.{◌≡◌, ◌+◌, ◌≤◌, [], ◌∷◌, ◌++◌, length, slice_get, slice_set, IfOk, List, MatchResult, OnErr, OnOk, Result};
+ghost use Rattle.std.specs.Vec.{vec_capacity, vec_len};
+ghost use Rattle.ink_base.specs.declared.value.Value.{Value as OneValue};
 ghost use Rattle.ink_base.specs.declared.value.Value.TheVariants.{Empty};
 ghost use Rattle.ink_code.specs.Process.{given_out, held, moved, padded};
 ghost use Rattle.ink_proc.specs.Answers.{IsPutAnswer};
@@ -32,6 +33,7 @@ pub(crate) fn move_out(
     ensures moved { MatchResult result
         (λ values. moved numbers.now registers.old ≡ Result.Ok (values.items, registers.new))
         (λ why. moved numbers.now registers.old ≡ Result.Err why) }
+    ensures count { IfOk result (λ values. vec_len values ≡ length numbers.now) }
     ensures room { IfOk result (λ values. vec_capacity room ≤ vec_capacity values) }
 {
     for number in numbers {
@@ -39,6 +41,25 @@ pub(crate) fn move_out(
         room.push_reserved(value);
     }
     Ok(room)
+}
+
+/// Puts values back into the registers that they were moved out of, the last one first.
+pub(crate) fn move_back(registers: &mut Items<Value>, numbers: &[u32], mut values: Items<Value>)
+    requires { length values ≡ length numbers.now }
+    ensures { (before : List OneValue) → moved numbers.now before ≡ Result.Ok (values, registers.old) → registers.new ≡ before }
+{
+    while let Some(value) = values.pop() {
+        set_if_there(registers, numbers[values.len() as usize], value);
+    }
+}
+
+/// Sets a register, where it is there.
+fn set_if_there(registers: &mut Items<Value>, number: u32, value: Value)
+    ensures { registers.new ≡ slice_set registers.old number value }
+{
+    if u64::from(number) < registers.len() {
+        registers.set(u64::from(number), value);
+    }
 }
 
 /// Puts empty values behind the others, up to so many in all, where there is room for them.
@@ -50,6 +71,18 @@ pub(crate) fn pad(mut values: Vec<Value>, most: u32) -> Vec<Value>
         values.push_reserved(Value::Empty);
     }
     values
+}
+
+/// Moves values behind the others, where there is room for them.
+pub(crate) fn move_behind(front: &mut Vec<Value>, mut values: Items<Value>)
+    requires { vec_len front.old + length values ≤ vec_capacity front.old }
+    ensures items { front.new.items ≡ front.old.items ++ values }
+    ensures capacity { vec_capacity front.new ≡ vec_capacity front.old }
+{
+    for place in 0..values.len() {
+        let value = values.set(place, Value::Empty);
+        front.push_reserved(value);
+    }
 }
 
 /// Puts a value in a register, where there is one.

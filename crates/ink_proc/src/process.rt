@@ -6,7 +6,7 @@ ghost use Rattle.ink_proc.specs.State.{state_of};
 use crate::fault::StartFault;
 use crate::frames::Frames;
 use crate::pending::Pending;
-use ink_base::ObjectId;
+use ink_base::{ObjectId, Value};
 use ink_code::Frame;
 use ink_heap::Heap;
 use std::alloc::Global;
@@ -24,6 +24,8 @@ pub struct Proc {
     pub pending: Pending,
     /// How many steps it made since its last action.
     pub ran: u64,
+    /// What a step may use as room for values, so that it wants no memory each time. What it holds says nothing.
+    pub room: Vec<Value>,
 }
 
 impl Proc {
@@ -50,6 +52,7 @@ impl Proc {
             heap,
             pending: Pending::new(alloc),
             ran: 0,
+            room: Vec::new(alloc),
         })
     }
 

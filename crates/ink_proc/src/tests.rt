@@ -80,6 +80,40 @@ fn a_call_and_what_it_moves(rt: HostRuntime) -> Result<(), Fail> {
 }
 
 #[test]
+fn values_that_are_put_back(rt: HostRuntime) -> Result<(), Fail> {
+    let mut frames = Frames::new(rt.alloc());
+    frames.push(frame(rt.alloc(), 8, (1, 2))?)?;
+    let room = Vec::with_capacity(rt.alloc(), 2)?;
+    match frames.take_out(room, &[1, 0]) {
+        Err(_) => assert!(rt; false),
+        Ok(values) => frames.put_back(&[1, 0], values),
+    }
+    assert!(rt; is_int(frames.register(0), 1));
+    assert!(rt; is_int(frames.register(1), 2));
+    match frames.take(1) {
+        Err(_) => assert!(rt; false),
+        Ok(value) => frames.give_back(1, value),
+    }
+    assert!(rt; is_int(frames.register(1), 2));
+    Ok(())
+}
+
+#[test]
+fn a_first_frame(rt: HostRuntime) -> Result<(), Fail> {
+    let others = Items::of(vec![in rt.alloc(); Value::Int(6), Value::Int(7)]?);
+    let one = Vec::with_capacity(rt.alloc(), 1)?;
+    let room = Vec::with_capacity(rt.alloc(), 4)?;
+    let frames = Frames::first(one, room, 3, 4, Value::Int(5), others);
+    assert_eq!(rt; frames.len(), 1);
+    for number in 0..3 {
+        assert!(rt; is_int(frames.register(number), 5 + i64::from(number)));
+    }
+    assert!(rt; matches!(frames.register(3), Some(Value::Empty)));
+    assert!(rt; !frames.has(4));
+    Ok(())
+}
+
+#[test]
 fn drops_that_wait(rt: HostRuntime) -> Result<(), Fail> {
     let mut frames = Frames::new(rt.alloc());
     frames.push(frame(rt.alloc(), 8, (1, 2))?)?;
