@@ -10,6 +10,7 @@ mod frames;
 mod moving;
 mod pending;
 mod process;
+mod putting;
 #[cfg(test)]
 mod tests;
 
@@ -17,3 +18,4 @@ pub use fault::{EnterFault, StartFault, TakeApartFault, WaitFault};
 pub use frames::Frames;
 pub use pending::Pending;
 pub use process::Proc;
+pub use putting::put_over;

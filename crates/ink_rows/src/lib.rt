@@ -10,11 +10,12 @@ mod bool_rows;
 mod computed;
 mod divided;
 mod int_rows;
-mod operands;
+pub mod operands;
 mod shifts;
 #[cfg(test)]
 mod tests;
 mod text_rows;
+pub mod texts;
 mod value_rows;
 
 pub use computed::{Computed, RowFault};

@@ -2,7 +2,7 @@
 #![tactic(auto, unfolding(ink_code::specs::Machine::after))]
 
 ghost use Rattle.std.specs.Prelude.{◌≡◌, Ok, Err, MatchResult};
-ghost use Rattle.ink_code.specs.Rows.{single, pair, int_of};
+ghost use Rattle.ink_code.specs.Rows.{single, pair, int_of, place_in};
 ghost use Rattle.ink_code.specs.Moves.{truth_of, text_of};
 
 use ink_base::{Text, Value};
@@ -65,4 +65,15 @@ pub fn text_of(value: &Value) -> Result<&Text, Wrong>
         Value::Txt(text) => Ok(text),
         _ => Err(Wrong::Kind),
     }
+}
+
+/// The place that an index names among so many, where it is one of them.
+pub fn place_in(index: i64, size: usize) -> Option<usize>
+    ensures { result ≡ place_in index size }
+{
+    if index < 0 {
+        return None;
+    }
+    let place = index as usize;
+    if place < size { Some(place) } else { None }
 }

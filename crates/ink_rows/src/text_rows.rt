@@ -1,19 +1,16 @@
 //! The rows of String.
 #![tactic(auto, unfolding(ink_code::specs::Machine::after))]
 
-ghost use Rattle.std.specs.Prelude.{◌≡◌, ◌++◌, codes, IfOk};
-ghost use Rattle.std.specs.Fmt.{signed_decimal};
-ghost use Rattle.ink_base.specs.Panics.{index_text};
-ghost use Rattle.ink_code.specs.Rows.{place_in};
+ghost use Rattle.std.specs.Prelude.{◌≡◌};
 ghost use Rattle.ink_code.specs.TextRows.{join_row, same_text_row, other_text_row, text_size_row, text_empty_row, byte_row, starts_with_row, text_to_string_row, text_rows};
 ghost use Rattle.ink_rows.specs.Answers.{Answers, TakesNoMemory};
 
 use crate::computed::{Computed, RowFault};
-use crate::operands::{int_of, pair, single, text_of};
+use crate::operands::{int_of, pair, place_in, single, text_of};
+use crate::texts::index_text;
 use ink_base::{Limit, Limits, Text, TextFault, Value};
 use ink_code::Wrong;
-use itoa::Buffer;
-use std::alloc::{AllocError, Global};
+use std::alloc::Global;
 
 /// Both texts in order, where that is no longer than the limit.
 #[tactic(auto, unfolding(ink_code::specs::Machine::after, ink_code::specs::TextRows::join_row))]
@@ -74,38 +71,6 @@ fn is_empty(values: &[Value]) -> Result<Computed, RowFault>
 {
     let text = text_of(single(values)?)?;
     Ok(Computed::Gives(Value::Bool(text.bytes().is_empty())))
-}
-
-/// The place that an index names among so many, where it is one of them.
-fn place_in(index: i64, size: usize) -> Option<usize>
-    ensures { result ≡ place_in index size }
-{
-    if index < 0 {
-        return None;
-    }
-    let place = index as usize;
-    if place < size { Some(place) } else { None }
-}
-
-/// How that text begins.
-fn index_named(alloc: Global, index: i64) -> Result<Vec<u8>, AllocError>
-    ensures { IfOk result (λ bytes. bytes.items ≡ codes "index " ++ signed_decimal index) }
-{
-    let mut buffer = Buffer::new();
-    let mut bytes = Vec::from_slice(alloc, b"index ")?;
-    bytes.extend_from_slice(buffer.format(index).as_bytes())?;
-    Ok(bytes)
-}
-
-/// With which text a row panics whose index isn't from 0 to before the size.
-fn index_text(alloc: Global, index: i64, size: usize) -> Result<Text, AllocError>
-    ensures { IfOk result (λ text. text ≡ index_text index size) }
-{
-    let mut buffer = Buffer::new();
-    let mut bytes = index_named(alloc, index)?;
-    bytes.extend_from_slice(b" is out of bounds, size ")?;
-    bytes.extend_from_slice(buffer.format(size).as_bytes())?;
-    Ok(Text::from_bytes(bytes))
 }
 
 /// The byte in a place of a text.

@@ -1,0 +1,47 @@
+//! The texts with which rows panic, where these tell numbers.
+ghost use Rattle.std.specs.Prelude.{◌≡◌, ◌++◌, codes, IfOk};
+ghost use Rattle.std.specs.Fmt.{signed_decimal};
+ghost use Rattle.ink_base.specs.Panics.{drop_text, index_text};
+
+use ink_base::Text;
+use itoa::Buffer;
+use std::alloc::{AllocError, Global};
+
+/// How that text begins.
+fn index_named(alloc: Global, index: i64) -> Result<Vec<u8>, AllocError>
+    ensures { IfOk result (λ bytes. bytes.items ≡ codes "index " ++ signed_decimal index) }
+{
+    let mut buffer = Buffer::new();
+    let mut bytes = Vec::from_slice(alloc, b"index ")?;
+    bytes.extend_from_slice(buffer.format(index).as_bytes())?;
+    Ok(bytes)
+}
+
+/// With which text a row panics whose index isn't from 0 to before the size.
+pub fn index_text(alloc: Global, index: i64, size: usize) -> Result<Text, AllocError>
+    ensures { IfOk result (λ text. text ≡ index_text index size) }
+{
+    let mut buffer = Buffer::new();
+    let mut bytes = index_named(alloc, index)?;
+    bytes.extend_from_slice(b" is out of bounds, size ")?;
+    bytes.extend_from_slice(buffer.format(size).as_bytes())?;
+    Ok(Text::from_bytes(bytes))
+}
+
+/// With which text a row panics that gives up an object of the named type while so many borrows of it live.
+pub fn drop_text(alloc: Global, name: &Text, borrows: u64) -> Result<Text, AllocError>
+    ensures { IfOk result (λ text. text ≡ drop_text name.now borrows) }
+{
+    let mut out = Vec::new(alloc);
+    out.extend_from_slice(b"cannot drop ")?;
+    out.extend_from_slice(name.bytes())?;
+    out.extend_from_slice(b": ")?;
+    let number = format!(in alloc; "{borrows}")?;
+    out.extend_from_slice(number.as_bytes())?;
+    if borrows == 1 {
+        out.extend_from_slice(b" borrow")?;
+    } else {
+        out.extend_from_slice(b" borrows")?;
+    }
+    Ok(Text::from_bytes(out))
+}
