@@ -1,3 +1,4 @@
 pub mod Moves
+pub mod Owners
 pub mod Parts
 pub mod View

@@ -11,8 +11,10 @@ mod parcel;
 #[cfg(test)]
 mod tests;
 mod tree;
+mod under;
 
 pub use cutting::cut;
 pub use fault::{CutFault, JoinFault};
 pub use joining::join;
 pub use parcel::Parcel;
+pub use under::is_under;
