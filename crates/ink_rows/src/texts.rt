@@ -1,9 +1,12 @@
-//! The texts with which rows panic, where these tell numbers.
+//! The texts with which rows and instructions panic, where these tell numbers or limits.
 ghost use Rattle.std.specs.Prelude.{◌≡◌, ◌++◌, codes, IfOk};
 ghost use Rattle.std.specs.Fmt.{signed_decimal};
+ghost use Rattle.ink_base.specs.Actions.{reached};
+ghost use Rattle.ink_base.specs.Limits.{panic_text};
 ghost use Rattle.ink_base.specs.Panics.{drop_text, index_text};
+ghost use Rattle.ink_code.specs.Machine.{passed};
 
-use ink_base::Text;
+use ink_base::{Limit, Limits, Text};
 use itoa::Buffer;
 use std::alloc::{AllocError, Global};
 
@@ -44,4 +47,46 @@ pub fn drop_text(alloc: Global, name: &Text, borrows: u64) -> Result<Text, Alloc
         out.extend_from_slice(b" borrows")?;
     }
     Ok(Text::from_bytes(out))
+}
+
+/// With which text there is a panic at that limit, if there is one.
+pub fn limit_text(alloc: Global, limit: Limit) -> Result<Option<Text>, AllocError>
+    ensures { IfOk result (λ text. text ≡ panic_text limit) }
+{
+    match limit.panic_text() {
+        None => Ok(None),
+        Some(text) => Ok(Some(Text::of(alloc, text.as_bytes())?)),
+    }
+}
+
+/// With which text there is a panic where so many reach a limit. `None` where they don't.
+pub fn reached_text(
+    alloc: Global,
+    limits: &Limits,
+    limit: Limit,
+    count: u64,
+) -> Result<Option<Text>, AllocError>
+    ensures { IfOk result (λ text. text ≡ reached limit count limits.now) }
+{
+    if limits.get(limit) <= count {
+        limit_text(alloc, limit)
+    } else {
+        Ok(None)
+    }
+}
+
+/// With which text there is a panic where so many are more than a limit. `None` where they aren't.
+pub fn passed_text(
+    alloc: Global,
+    limits: &Limits,
+    limit: Limit,
+    count: u64,
+) -> Result<Option<Text>, AllocError>
+    ensures { IfOk result (λ text. text ≡ passed limit count limits.now) }
+{
+    if limits.get(limit) < count {
+        limit_text(alloc, limit)
+    } else {
+        Ok(None)
+    }
 }

@@ -6,11 +6,12 @@ ghost use Rattle.ink_code.specs.Process.{held};
 ghost use Rattle.ink_steps.specs.Answers.{Answers};
 ghost use Rattle.ink_proc.specs.State.{state_of};
 
-use crate::reads::{copied, object_of, panic_with};
+use crate::reads::{copied, object_of};
 use crate::stepped::{StepFault, Stepped};
 use ink_base::{Limit, Limits, Value};
 use ink_code::{Code, Frame, Impl, Instr, Wrong};
 use ink_proc::{EnterFault, Proc};
+use ink_rows::texts::reached_text;
 use std::alloc::Global;
 
 /// A method is called with the values of registers.
@@ -34,8 +35,8 @@ pub fn invoke_step(
         None => return Err(StepFault::Wrong(Wrong::Place)),
         Some(called) => called,
     };
-    if limits.get(Limit::Frames) <= proc.frames.len() {
-        return panic_with(alloc, b"limit reached: frames");
+    if let Some(text) = reached_text(alloc, limits, Limit::Frames, proc.frames.len())? {
+        return Ok(Stepped::Panics(text));
     }
     match proc
         .frames

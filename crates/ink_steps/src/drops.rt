@@ -4,18 +4,20 @@ ghost use Rattle.std.specs.FinMap.{remove};
 ghost use Rattle.ink_base.specs.Panics.{drop_text};
 ghost use Rattle.ink_code.specs.Drops.{drop_maybe_step, drop_step, dropped};
 ghost use Rattle.ink_code.specs.Machine.{after, given, panics};
-ghost use Rattle.ink_code.specs.Makes.{gives_up};
+ghost use Rattle.ink_code.specs.Makes.{gives_up, take_apart_step};
 ghost use Rattle.ink_code.specs.Objects.{after_borrow, object_at};
 ghost use Rattle.ink_steps.specs.NextDrop.{first_drop};
 ghost use Rattle.ink_steps.specs.Answers.{Answers, Goes};
 ghost use Rattle.ink_proc.specs.State.{state_of};
 
-use crate::reads::go_on;
+use crate::reads::{copied, go_on, owned_by};
 use crate::stepped::{Request, StepFault, Stepped};
-use ink_base::{ObjectId, Text, Value};
+use ink_base::{ObjectId, Value};
 use ink_code::{Code, Wrong};
+use ink_heap::FreeFault;
 use ink_proc::{Proc, TakeApartFault, WaitFault};
-use std::alloc::{AllocError, Global};
+use ink_rows::texts::drop_text;
+use std::alloc::Global;
 
 /// The value of a register waits to be dropped.
 #[tactic(auto, unfolding(ink_code::specs::Drops::drop_step, ink_code::specs::Machine::after))]
@@ -91,24 +93,6 @@ fn panic_borrowed(
     }
 }
 
-/// The text of the panic where an object has so many borrows.
-fn drop_text(alloc: Global, name: &Text, borrows: u64) -> Result<Text, AllocError>
-    ensures { IfOk result (λ text. text ≡ drop_text name.now borrows) }
-{
-    let mut out = Vec::new(alloc);
-    out.extend_from_slice(b"cannot drop ")?;
-    out.extend_from_slice(name.bytes())?;
-    out.extend_from_slice(b": ")?;
-    let number = format!(in alloc; "{borrows}")?;
-    out.extend_from_slice(number.as_bytes())?;
-    if borrows == 1 {
-        out.extend_from_slice(b" borrow")?;
-    } else {
-        out.extend_from_slice(b" borrows")?;
-    }
-    Ok(Text::from_bytes(out))
-}
-
 /// The next drop is that of an object's owner: the object goes, and its fields wait in its place.
 #[tactic(auto, unfolding(ink_code::specs::Machine::after, ink_code::specs::Machine::unless, ink_code::specs::Objects::object_at))]
 fn drop_owner(
@@ -177,6 +161,37 @@ pub fn drop_next(alloc: Global, proc: &mut Proc, code: &Code) -> Result<Stepped,
                 Err(why) => Err(StepFault::Wrong(why)),
                 Ok(()) => Ok(Stepped::Went),
             }
+        }
+    }
+}
+
+/// An object is given up, and its fields go to registers. It is a panic where a borrow of it is counted.
+#[tactic(auto, unfolding(ink_code::specs::Makes::take_apart_step, ink_code::specs::Objects::object_at, ink_code::specs::Machine::given, ink_code::specs::Machine::after, ink_code::specs::Machine::unless))]
+pub fn take_apart_step(
+    alloc: Global,
+    proc: &mut Proc,
+    code: &Code,
+    next: u32,
+    to: &[u32],
+    object: u32,
+) -> Result<Stepped, StepFault>
+    requires { proc.old.ran < 2 ^ 62 }
+    ensures { Answers (take_apart_step code.now next to.now object (state_of proc.old)) result (state_of proc.old) (state_of proc.new) }
+{
+    let owner = copied(alloc, &proc.frames, object)?;
+    let id = owned_by(&owner)?;
+    let kind = match proc.heap.kind_of(&id) {
+        None => return Err(StepFault::Wrong(Wrong::Object)),
+        Some((kind, _tag)) => kind,
+    };
+    match proc.heap.free(&id) {
+        Err(FreeFault::Absent) => Err(StepFault::Wrong(Wrong::Object)),
+        Err(FreeFault::Borrowed(count)) => panic_borrowed(alloc, proc, code, kind, count),
+        Ok(fields) => {
+            proc.frames.set(object, Value::Empty);
+            proc.frames.put_out(to, fields)?;
+            go_on(proc, next);
+            Ok(Stepped::Went)
         }
     }
 }

@@ -1,5 +1,5 @@
 //! What the instructions read, and what ends each of them.
-ghost use Rattle.std.specs.Prelude.{◌≡◌, ◌+◌, ◌<◌, ◌^◌};
+ghost use Rattle.std.specs.Prelude.{◌≡◌, ◌+◌, ◌<◌, ◌^◌, Err, MatchResult, Ok};
 ghost use Rattle.ink_code.specs.Moves.{constant_of, text_of, truth_of};
 ghost use Rattle.ink_code.specs.Objects.{after_copy, lent, object_of, owned_by};
 ghost use Rattle.ink_code.specs.Process.{at_place, held, register};
@@ -20,6 +20,17 @@ pub(crate) fn go_on(proc: &mut Proc, place: u32)
 {
     proc.frames.go_on(place);
     proc.ran += 1;
+}
+
+/// The value in a register, where it is there.
+pub(crate) fn held(frames: &Frames, number: u32) -> Result<&Value, Wrong>
+    ensures { MatchResult result (λ value. held (register frames.now number) ≡ Ok value.now) (λ why. held (register frames.now number) ≡ Err why) }
+{
+    match frames.register(number) {
+        None => Err(Wrong::Place),
+        Some(Value::Empty) => Err(Wrong::Empty),
+        Some(value) => Ok(value),
+    }
 }
 
 /// A copy of the value in a register, where it is there.

@@ -1,7 +1,10 @@
 //! What a step came to.
+ghost use Rattle.std.specs.Prelude.{◌≡◌};
+
 use ink_base::Text;
 use ink_code::Wrong;
 use ink_parcel::Parcel;
+use std::alloc::AllocError;
 
 /// What a step came to.
 #[derive(Debug, Drop)]
@@ -50,4 +53,24 @@ pub enum StepFault {
     Wrong(Wrong),
     /// The process is as before.
     OutOfMemory,
+}
+
+impl From<AllocError> for StepFault {
+    ghost use Rattle.ink_steps.specs.declared.stepped.StepFault.{StepFault};
+
+    ghost from_gives = { λ _ fault. fault ≡ StepFault.OutOfMemory };
+
+    fn from(_: AllocError) -> StepFault {
+        StepFault::OutOfMemory
+    }
+}
+
+impl From<Wrong> for StepFault {
+    ghost use Rattle.ink_steps.specs.declared.stepped.StepFault.{StepFault};
+
+    ghost from_gives = { λ why fault. fault ≡ StepFault.Wrong why };
+
+    fn from(why: Wrong) -> StepFault {
+        StepFault::Wrong(why)
+    }
 }
