@@ -1,11 +1,11 @@
 -- The steps of the walk by which the code machine parts objects.
-use Rattle.std.proofs.Common.{◌≡◌, ℕ, zero, suc, ◌+◌, ◌-◌, ◌<◌, ◌≤◌, Bool, true, false, cond, Option, Some, None, Result, Ok, Err, List, [], ◌∷◌, ◌++◌, length, take, drop, get_or, refl, sym, ap, ◌∙◌, subst, arith, append_assoc, append-nil, add-one}
+use Rattle.std.proofs.Common.{◌≡◌, ℕ, zero, suc, ◌+◌, ◌<◌, ◌≤◌, Bool, true, false, cond, Option, Some, None, Result, Ok, Err, List, [], ◌∷◌, ◌++◌, length, take, drop, get_or, refl, sym, ap, ◌∙◌, subst, arith, append_assoc, append-nil, add-one}
 use Rattle.std.proofs.lemmas.List.{take_more, drop_more, take-append-drop, drop-append-le}
 use Rattle.std.proofs.Math.ListN.{drop_of_length-le}
 use Rattle.std.proofs.Math.Seq.{take-length}
 use Rattle.std.specs.List.{slice_get}
-use Rattle.std.specs.Option.{is_some, option_map_or}
-use Rattle.std.proofs.lemmas.Option.{none-some, slice_get_within, slice_get-get_or, get_or_from_slice_get}
+use Rattle.std.specs.Option.{is_some}
+use Rattle.std.proofs.lemmas.Option.{slice_get_within, slice_get-get_or, get_or_from_slice_get}
 use Rattle.std.specs.FinMap.{empty, find, from_entries, get, insert, len, remove, get-empty, get-from_entries, get-insert, len-remove, same_map}
 use Rattle.ink_base.specs.declared.ident.ObjectId.{ObjectId}
 use Rattle.ink_base.specs.declared.value.Value.{Value}
@@ -19,7 +19,7 @@ use Rattle.ink_code.specs.declared.wrong.Wrong.TheVariants as wrong
 use Rattle.ink_code.specs.Trees.{Parted, first_owned, none_owned, take_if, take_first, parted_by, parted_of}
 use Rattle.ink_heap.specs.Pairs.{Pairs, AreApart}
 use Rattle.ink_heap.specs.View.{HeapView}
-use Rattle.ink_heap.proofs.ObjectsLemmas.{is_same, is_same-itself, is_same-one}
+use Rattle.ink_heap.proofs.ObjectsLemmas.{is_same, is_same-one}
 use Rattle.ink_parcel.specs.declared.fault.MoveFault.{MoveFault}
 use Rattle.ink_parcel.specs.declared.fault.MoveFault.TheVariants as move
 use Rattle.ink_parcel.specs.Moves.{fields_at}
