@@ -3,3 +3,4 @@ pub mod MovesLemmas
 pub mod PartsLemmas
 pub mod PutLemmas
 pub mod UnderLemmas
+pub mod WalkLemmas
