@@ -4,9 +4,11 @@ use Rattle.ink_base.specs.Actions.{Action}
 use Rattle.ink_base.specs.Actions as action
 use Rattle.ink_code.specs.declared.wrong.Wrong.{Wrong}
 use Rattle.ink_code.specs.Machine as machine
+use Rattle.ink_base.specs.Objects.{Objects}
+use Rattle.ink_base.specs.declared.value.Value.{Value}
 use Rattle.ink_code.specs.Process.{Process}
-use Rattle.ink_code.specs.Trees.{Parcel}
-use Rattle.ink_parcel.specs.View.{parcel_of}
+use Rattle.ink_code.specs.Trees.{Parcel, Parted}
+use Rattle.ink_parcel.specs.View.{ParcelView, parcel_of}
 use Rattle.ink_steps.specs.declared.stepped.Request.{Request}
 use Rattle.ink_steps.specs.declared.stepped.Request.TheVariants as request
 use Rattle.ink_steps.specs.declared.stepped.Stepped.{Stepped}
@@ -57,3 +59,9 @@ Changes changed (Err fault.OutOfMemory) old new = new ≡ old
 abbrev pub PanicsWith : List ℕ → Result Stepped StepFault → Type 0
 PanicsWith text (Ok came) = told came ≡ machine.Panics text
 PanicsWith text (Err why) = why ≡ fault.OutOfMemory
+
+-- the parcel has the values and the objects of their tree, and these are left; or one that is owned isn't there
+abbrev pub IsCut : Result Parted Wrong → Result ParcelView StepFault → List Value → Objects → Type 0
+IsCut parted (Ok parcel) values left = (parted ≡ Ok (record { left = left; taken = parcel.objects })) × (parcel.values ≡ values)
+IsCut parted (Err (fault.Wrong why)) values left = parted ≡ Err why
+IsCut parted (Err fault.OutOfMemory) values left = Unit {0}

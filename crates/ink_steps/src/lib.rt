@@ -24,4 +24,6 @@ pub use moves::{
 };
 pub use objects::{load_borrow_step, load_step, store_step, tag_step};
 pub use stepped::{Request, StepFault, Stepped};
-pub use wants::{future_get_step, future_new_step, print_step};
+pub use wants::{
+    future_get_step, future_new_step, print_step, promise_set_step, send_step, spawn_step,
+};

@@ -1,7 +1,11 @@
 //! The instructions that want an action.
+ghost use Rattle.std.specs.Prelude.{◌≡◌, length, IfErr, List, OnOk, Result};
+ghost use Rattle.ink_code.specs.declared.frame.Frame.{Frame};
 ghost use Rattle.ink_code.specs.Moves.{text_of};
+ghost use Rattle.ink_code.specs.Process.{taken_out};
+ghost use Rattle.ink_code.specs.Trees.{parted_of};
 ghost use Rattle.ink_code.specs.Wanted.{future_get_step, future_new_step, future_of, print_step, process_of, promise_of, promise_set_step, send_step, spawn_step};
-ghost use Rattle.ink_steps.specs.Answers.{Answers, Finds};
+ghost use Rattle.ink_steps.specs.Answers.{Answers, Finds, IsCut};
 ghost use Rattle.ink_proc.specs.State.{state_of};
 
 use crate::reads::{copied, text_of};
@@ -80,4 +84,91 @@ pub fn future_get_step(
     let value = copied(alloc, &proc.frames, future)?;
     let future = future_of(&value)?;
     Ok(Stepped::Wants(Request::GetFuture { future }))
+}
+
+/// Values are cut out with the objects of their tree. Where this can't be, they go back to the registers out of which
+/// they were moved.
+fn cut_out(
+    alloc: Global,
+    proc: &mut Proc,
+    numbers: &[u32],
+    values: Items<Value>,
+) -> Result<Parcel, StepFault>
+    requires { length values ≡ length numbers.now }
+    ensures parted { IsCut (parted_of values proc.old.heap.objects) result values proc.new.heap.objects }
+    ensures frames { OnOk result (proc.new.frames ≡ proc.old.frames) }
+    ensures rest { state_of proc.new ≡ record (state_of proc.old) { frames = proc.new.frames; objects = proc.new.heap.objects } }
+    ensures back { IfErr result (λ fault. fault ≡ StepFault.OutOfMemory → (proc.new.heap.objects ≡ proc.old.heap.objects) × ((before : List Frame) → taken_out numbers.now before ≡ Result.Ok (values, proc.old.frames) → proc.new.frames ≡ before)) }
+{
+    match cut(alloc, &mut proc.heap, values) {
+        Ok(parcel) => Ok(parcel),
+        Err(CutFault::Absent(_)) => Err(StepFault::Wrong(Wrong::Object)),
+        Err(CutFault::OutOfMemory(values)) => {
+            proc.frames.put_back(numbers, values);
+            Err(StepFault::OutOfMemory)
+        }
+    }
+}
+
+/// A new process of a type is wanted, with these fields of its state.
+#[tactic(auto, unfolding(ink_code::specs::Wanted::spawn_step, ink_code::specs::Machine::given, ink_code::specs::Machine::after))]
+pub fn spawn_step(
+    alloc: Global,
+    proc: &mut Proc,
+    to: u32,
+    kind: u32,
+    fields: &[u32],
+) -> Result<Stepped, StepFault>
+    ensures { Answers (spawn_step to kind fields.now (state_of proc.old)) result (state_of proc.old) (state_of proc.new) }
+{
+    if !proc.frames.has(to) {
+        return Err(StepFault::Wrong(Wrong::Place));
+    }
+    let room = Vec::with_capacity(alloc, fields.len())?;
+    let values = proc.frames.take_out(room, fields)?;
+    let fields = cut_out(alloc, proc, fields, values)?;
+    Ok(Stepped::Wants(Request::Spawn { kind, fields }))
+}
+
+/// A message to a process is wanted.
+#[tactic(auto, unfolding(ink_code::specs::Wanted::send_step, ink_code::specs::Machine::after))]
+pub fn send_step(
+    alloc: Global,
+    proc: &mut Proc,
+    process: u32,
+    method: u32,
+    arguments: &[u32],
+) -> Result<Stepped, StepFault>
+    ensures { Answers (send_step process method arguments.now (state_of proc.old)) result (state_of proc.old) (state_of proc.new) }
+{
+    let receiver = copied(alloc, &proc.frames, process)?;
+    let to = process_of(&receiver)?;
+    let room = Vec::with_capacity(alloc, arguments.len())?;
+    let values = proc.frames.take_out(room, arguments)?;
+    let values = cut_out(alloc, proc, arguments, values)?;
+    Ok(Stepped::Wants(Request::Send { to, method, values }))
+}
+
+/// A value is to be set at a promise, which is used up.
+#[tactic(auto, unfolding(ink_code::specs::Wanted::promise_set_step, ink_code::specs::Machine::after))]
+pub fn promise_set_step(
+    alloc: Global,
+    proc: &mut Proc,
+    promise: u32,
+    from: u32,
+) -> Result<Stepped, StepFault>
+    ensures { Answers (promise_set_step promise from (state_of proc.old)) result (state_of proc.old) (state_of proc.new) }
+{
+    let found = copied(alloc, &proc.frames, promise)?;
+    let future = promise_of(&found)?;
+    let room = Vec::with_capacity(alloc, 1)?;
+    proc.frames.take(promise)?;
+    let values = proc.frames.take_out(room, &[from])?;
+    match cut_out(alloc, proc, &[from], values) {
+        Ok(value) => Ok(Stepped::Wants(Request::SetFuture { future, value })),
+        Err(fault) => {
+            proc.frames.give_back(promise, Value::Promise(future));
+            Err(fault)
+        }
+    }
 }
