@@ -1,17 +1,16 @@
 //! One way through the steps, in a code of two methods, and what some of them refuse.
-ghost use Rattle.std.specs.Prelude.{◌≡◌, ◌<◌, ◌^◌, IsTrue, Option};
-ghost use Rattle.std.specs.FinMap as map;
-ghost use Rattle.ink_code.specs.Process.{next_id};
-ghost use Rattle.ink_proc.specs.State.{state_of};
+ghost use Rattle.std.specs.Prelude.{◌<◌, ◌^◌, IsTrue};
 
 use crate::calls::{invoke_bound_step, invoke_step, return_step};
-use crate::drops::{drop_next, drop_step};
+use crate::drops::{drop_next, drop_step, take_apart_step};
+use crate::makes::make_step;
 use crate::moves::{
     borrow_step, const_step, copy_step, exchange_step, jump_if_step, move_step, my_proc_step,
 };
-use crate::objects::{load_step, make_step, tag_step};
-use crate::stepped::{StepFault, Stepped};
-use ink_base::{Items, Limits, ObjectId, Text, Value};
+use crate::objects::{load_step, store_step, tag_step};
+use crate::stepped::{Request, StepFault, Stepped};
+use crate::wants::{promise_set_step, send_step};
+use ink_base::{Items, Limits, Text, Value};
 use ink_code::{Code, Frame, Impl, Instr, Method, Wrong};
 use ink_heap::Heap;
 use ink_proc::{Frames, Pending, Proc};
@@ -74,6 +73,7 @@ fn a_process(alloc: Global) -> Result<Proc, Fail> {
         heap: Heap::new(alloc),
         pending: Pending::new(alloc),
         ran: 0,
+        room: Vec::new(alloc),
     })
 }
 
@@ -82,20 +82,6 @@ fn may_go(process: &Proc) -> bool
     ensures { IsTrue result → process.now.ran < 2 ^ 62 }
 {
     process.ran < 1 << 62
-}
-
-/// Whether a process may make an object, whose name isn't used.
-fn may_make(process: &Proc) -> bool
-    ensures { IsTrue result → map.get process.now.heap.objects (next_id (state_of process.now)) ≡ Option.None }
-{
-    if process.made >= 1 << 62 {
-        return false;
-    }
-    let next = ObjectId {
-        process: process.number,
-        serial: process.made + 1,
-    };
-    process.heap.kind_of(&next).is_none()
 }
 
 fn went(came: Result<Stepped, StepFault>) -> bool {
@@ -112,6 +98,30 @@ fn panics_with(came: &Result<Stepped, StepFault>, text: &[u8]) -> bool {
 fn holds_int(process: &Proc, register: u32, number: i64) -> bool {
     match process.frames.register(register) {
         Some(Value::Int(found)) => *found == number,
+        _ => false,
+    }
+}
+
+/// Whether that many values with that many objects went to that process, or to that future.
+fn went_out(came: &Result<Stepped, StepFault>, to: &Value, values: usize, objects: u64) -> bool {
+    match (came, to) {
+        (
+            Ok(
+                Stepped::Wants(
+                    Request::Send {
+                        to,
+                        values: parcel,
+                        ..
+                    },
+                ),
+            ),
+            Value::Proc(process),
+        ) => {
+            to == process && parcel.values().len() == values && parcel.object_count() == objects
+        }
+        (Ok(Stepped::Wants(Request::SetFuture { future, value })), Value::Future(number)) => {
+            future == number && value.values().len() == values && value.object_count() == objects
+        }
         _ => false,
     }
 }
@@ -174,7 +184,6 @@ fn an_object_and_its_drop(rt: HostRuntime) -> Result<(), Fail> {
     assert!(rt; may_go(&process));
     assert!(rt; went(const_step(rt.alloc(), &mut process, &code, 0, 0, 0)));
     assert!(rt; may_go(&process));
-    assert!(rt; may_make(&process));
     assert!(rt; went(make_step(rt.alloc(), &mut process, &limits, 0, 1, 0, 8, &[0])));
     assert!(rt; may_go(&process));
     assert!(rt; went(load_step(rt.alloc(), &mut process, 0, 0, 1, 0)));
@@ -200,7 +209,6 @@ fn drops_one_after_another(rt: HostRuntime) -> Result<(), Fail> {
     assert!(rt; may_go(&process));
     assert!(rt; went(const_step(rt.alloc(), &mut process, &code, 0, 0, 0)));
     assert!(rt; may_go(&process));
-    assert!(rt; may_make(&process));
     assert!(rt; went(make_step(rt.alloc(), &mut process, &limits, 0, 1, 0, 8, &[0])));
     assert!(rt; may_go(&process));
     assert!(rt; went(borrow_step(rt.alloc(), &mut process, 0, 0, 1)));
@@ -222,5 +230,55 @@ fn drops_one_after_another(rt: HostRuntime) -> Result<(), Fail> {
     );
     assert!(rt; process.pending.first().is_none());
     assert_eq!(rt; process.heap.len(), 1);
+    Ok(())
+}
+
+#[test]
+fn a_field_that_changes(rt: HostRuntime) -> Result<(), Fail> {
+    let code = a_code(rt.alloc())?;
+    let limits = Limits::defaults();
+    let mut process = a_process(rt.alloc())?;
+    assert!(rt; may_go(&process));
+    assert!(rt; went(const_step(rt.alloc(), &mut process, &code, 0, 0, 0)));
+    assert!(rt; may_go(&process));
+    assert!(rt; went(make_step(rt.alloc(), &mut process, &limits, 0, 1, 0, 8, &[0])));
+    assert!(rt; may_go(&process));
+    assert!(rt; went(borrow_step(rt.alloc(), &mut process, 0, 2, 1)));
+    assert!(rt; may_go(&process));
+    let came = store_step(rt.alloc(), &mut process, 0, 3, 2, 0, 1);
+    assert!(rt; panics_with(&came, b"ownership cycle"));
+    assert!(rt; may_go(&process));
+    assert!(rt; went(const_step(rt.alloc(), &mut process, &code, 0, 0, 1)));
+    assert!(rt; may_go(&process));
+    assert!(rt; went(store_step(rt.alloc(), &mut process, 0, 3, 2, 0, 0)));
+    assert!(rt; holds_int(&process, 3, 5));
+    assert!(rt; may_go(&process));
+    assert!(rt; went(drop_step(&mut process, 2)));
+    assert!(rt; may_go(&process));
+    assert!(rt; went(drop_next(rt.alloc(), &mut process, &code)));
+    assert!(rt; may_go(&process));
+    assert!(rt; went(take_apart_step(rt.alloc(), &mut process, &code, 0, &[0], 1)));
+    assert!(rt; matches!(process.frames.register(0), Some(Value::Bool(true))));
+    assert!(rt; process.heap.is_empty());
+    Ok(())
+}
+
+#[test]
+fn values_that_go_out(rt: HostRuntime) -> Result<(), Fail> {
+    let limits = Limits::defaults();
+    let mut process = a_process(rt.alloc())?;
+    assert!(rt; may_go(&process));
+    assert!(rt; went(my_proc_step(&mut process, 0, 0)));
+    assert!(rt; may_go(&process));
+    assert!(rt; went(make_step(rt.alloc(), &mut process, &limits, 0, 1, 0, 8, &[])));
+    let came = send_step(rt.alloc(), &mut process, 0, 1, &[1]);
+    assert!(rt; went_out(&came, &Value::Proc(3), 1, 1));
+    assert!(rt; process.heap.is_empty());
+    process.frames.set(2, Value::Promise(7));
+    process.frames.set(3, Value::Int(6));
+    let came = promise_set_step(rt.alloc(), &mut process, 2, 3);
+    assert!(rt; went_out(&came, &Value::Future(7), 1, 0));
+    assert!(rt; matches!(process.frames.register(2), Some(Value::Empty)));
+    assert!(rt; matches!(process.frames.register(3), Some(Value::Empty)));
     Ok(())
 }
