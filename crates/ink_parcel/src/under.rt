@@ -2,8 +2,6 @@
 //!
 //! The walk keeps the objects that it still has to look at on a stack, so that a tree may be as high as memory allows.
 ghost use Rattle.std.specs.Prelude.{◌≡◌, ◌++◌, reverse, IfOk, OnOk};
-ghost use Rattle.std.specs.Ordering.{eq_by_cmp};
-ghost use Rattle.ink_base.specs.Ident.{id_cmp};
 ghost use Rattle.ink_base.specs.Objects.{fields_in};
 ghost use Rattle.ink_code.specs.Trees as trees;
 ghost use Rattle.ink_parcel.specs.Owners.{owner_in, owners};
@@ -11,13 +9,6 @@ ghost use Rattle.ink_parcel.specs.Owners.{owner_in, owners};
 use ink_base::{ObjectId, Value};
 use ink_heap::Heap;
 use std::alloc::{AllocError, Global};
-
-/// Whether two names are one.
-fn is_same(one: &ObjectId, other: &ObjectId) -> bool
-    ensures { result ≡ eq_by_cmp id_cmp one.now other.now }
-{
-    one.compare(other).is_eq()
-}
 
 /// Puts the object that a value owns on the stack.
 fn push_owner(stack: &mut Vec<ObjectId>, value: &Value) -> Result<(), AllocError>
@@ -62,7 +53,7 @@ pub fn is_under(
             None => return Ok(false),
             Some(next) => next,
         };
-        if is_same(&next, id) {
+        if next.compare(id).is_eq() {
             return Ok(true);
         }
         push_owners(&mut stack, heap, &next)?;

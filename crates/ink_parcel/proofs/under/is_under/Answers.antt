@@ -1,6 +1,7 @@
 use Rattle.std.proofs.Common.{◌≡◌, ℕ, ◌+◌, ◌-◌, ◌<◌, ◌++◌, length, suc, ap, sym, ◌∙◌, arith}
 use Rattle.std.specs.FinMap.{len}
 use Rattle.ink_parcel.specs.Owners.{owner_in}
+use Rattle.std.specs.Ordering.{is_eq}
 use Rattle.ink_parcel.proofs.UnderLemmas.{met_from, met_from-value, met_from-empty, met_from-zero, met_from-here, met_from-on}
 use Rattle.ink_parcel.proofs.under.is_under.Goals as goal
 
@@ -20,18 +21,18 @@ returns-in-None c =
     let none : length c.loop.stack.items ≡ 0 = omega arith in
     sym (c.loop.invariant ∙ met_from-empty (c.len-end.result - c.loop.counter) c.args.id.now c.args.heap.now.objects c.loop.stack.items none)
 
-pub returns-then-is_same : goal.returns-then-is_same
-returns-then-is_same c =
+pub returns-then-is_eq : goal.returns-then-is_eq
+returns-then-is_eq c =
     let most = c.len-end.result - c.loop.counter in
     let some : 0 < most = omega arith in
-    sym (c.loop.invariant ∙ met_from-here most c.args.id.now c.in-Some.next c.args.heap.now.objects c.loop.stack.items c.pop.new.self.items some c.in-Some.ensures.items (sym c.is_same.ensures ∙ c.if-is_same.true))
+    sym (c.loop.invariant ∙ met_from-here most c.args.id.now c.in-Some.next c.args.heap.now.objects c.loop.stack.items c.pop.new.self.items some c.in-Some.ensures.items (ap is_eq (sym c.compare.ensures) ∙ sym c.is_eq.ensures ∙ c.if-is_eq.true))
 
 pub loop-preserved : goal.loop-preserved
 loop-preserved c =
     let most = c.len-end.result - c.loop.counter in
     let less = c.len-end.result - (c.loop.counter + 1) in
     let one : most ≡ suc less = omega arith in
-    let other = sym c.is_same.ensures ∙ c.if-is_same.false in
+    let other = ap is_eq (sym c.compare.ensures) ∙ sym c.is_eq.ensures ∙ c.if-is_eq.false in
     c.loop.invariant
     ∙ met_from-on most less c.args.id.now c.in-Some.next c.args.heap.now.objects c.loop.stack.items c.pop.new.self.items c.push_owners.new.stack.items one c.in-Some.ensures.items other c.in_ok-push_owners.ensures
 
