@@ -1,5 +1,5 @@
 -- A walk down the objects that values own depends only on which objects they own, in which order.
-use Rattle.std.proofs.Common.{◌≡◌, ℕ, zero, suc, ◌<◌, Bool, true, false, if◌then◌else◌, Option, Some, None, List, [], ◌∷◌, ◌++◌, length, reverse, drop, refl, sym, ap, ◌∙◌, arith, append_assoc, append-nil, get_or}
+use Rattle.std.proofs.Common.{◌≡◌, ℕ, zero, suc, ◌<◌, Bool, true, false, if◌then◌else◌, Option, Some, None, List, [], ◌∷◌, ◌++◌, length, reverse, drop, refl, sym, ap, ◌∙◌, arith, append_assoc, append-nil, length-append, get_or}
 use Rattle.std.proofs.lemmas.List.{reverse-append, reverse-reverse}
 use Rattle.std.proofs.Math.Seq.{drop-cons}
 use Rattle.std.proofs.lemmas.Option.{none-some, slice_get-get_or, slice_get_within, get_or_from_slice_get}
@@ -169,3 +169,8 @@ pub field_there : (objects : Objects) (id : ObjectId) (index : ℕ) → None ≡
 field_there objects id index is low =
     let fields = base.fields_in objects id in
     none-some (get_or fields index v.Nil) (is ∙ field_read objects id index ∙ slice_get-get_or fields index v.Nil low)
+
+-- a stack from which one was taken was not empty
+pub not_empty : (stack rest : List ObjectId) (next : ObjectId) → stack ≡ rest ++ next ∷ [] → length stack ≡ 0 → ⊥
+not_empty stack rest next is none =
+    let size = ap length is ∙ length-append rest (next ∷ []) in omega arith

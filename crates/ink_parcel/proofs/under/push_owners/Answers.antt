@@ -11,7 +11,7 @@ loop-index-preserved-in-Continue-1 c =
     let at = sym (c.in-Some.ensures ∙ field_read objects c.args.id.now (index - 1)) in
     record {
       within = omega arith;
-      put = owners-field (fields_in objects c.args.id.now) (index - 1) index c.in-Some.value.now c.args.stack.now.items c.loop-index.stack.items c.push_owner.new.stack.items one at c.loop-index.invariant.put c.in_ok-push_owner.ensures;
+      put = owners-field (fields_in objects c.args.id.now) (index - 1) index c.in-Some.value.now c.args.stack.now.items c.loop-index.stack.items c.push_owner.new.stack.items one at c.loop-index.invariant.put c.in_ok-push_owner.ensures.pushed;
     }
 
 pub loop-index-preserved : goal.loop-index-preserved
