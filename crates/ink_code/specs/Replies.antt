@@ -46,8 +46,8 @@ arguments_of p parcel = v.Bor (state_id p) ∷ parcel.values
 abbrev pub after_taken : Code → ℕ → Parcel → Process → Result Process Wrong
 after_taken code method parcel p =
     given wrong.Place (slice_get code.methods method) (λ called.
-    after (after_copy (v.Bor (state_id p)) (joined p.objects parcel)) (λ objects.
-    Ok (record p { frames = entered method called.registers (arguments_of p parcel) []; objects = objects; ran = 0 })))
+    after (after_copy (v.Bor (state_id p)) p.objects) (λ objects.
+    Ok (record p { frames = entered method called.registers (arguments_of p parcel) []; objects = joined objects parcel; ran = 0 })))
 
 -- after a spawn: a register gets the reference to the new process
 abbrev pub after_started : ℕ → Option Instr → Process → Result Process Wrong

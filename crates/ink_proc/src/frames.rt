@@ -171,10 +171,19 @@ impl Frames {
         ensures moved { IsMoved result self.new (taken_out numbers.now self.old) }
         ensures count { IfOk result (λ values. length values ≡ length numbers.now) }
     {
-        match take_from_last(&mut self.items, room, numbers) {
-            Err(why) => Err(why),
-            Ok(values) => Ok(Items::of(values)),
-        }
+        Ok(Items::of(take_from_last(&mut self.items, room, numbers)?))
+    }
+
+    /// The same, into a vector that the caller may use again.
+    pub fn take_values(&mut self, room: Vec<Value>, numbers: &[u32]) -> Result<Vec<Value>, Wrong>
+        requires empty { room.items ≡ [] }
+        requires room { length numbers.now ≤ vec_capacity room }
+        ensures moved { MatchResult result
+            (λ values. taken_out numbers.now self.old ≡ Result.Ok (values.items, self.new))
+            (λ why. taken_out numbers.now self.old ≡ Result.Err why) }
+        ensures count { IfOk result (λ values. vec_len values ≡ length numbers.now) }
+    {
+        take_from_last(&mut self.items, room, numbers)
     }
 
     /// Puts values back into the registers of the innermost frame out of which they were moved: the frames are as before.

@@ -1,6 +1,7 @@
 //! The rows that only compute, by number.
 ghost use Rattle.std.specs.Prelude.{◌<◌};
-ghost use Rattle.ink_rows.specs.Answers.{Answers, value_rows};
+ghost use Rattle.ink_code.specs.Prims.{value_rows};
+ghost use Rattle.ink_rows.specs.Answers.{Answers};
 
 use crate::bool_rows::bool_row;
 use crate::computed::{Computed, RowFault};
@@ -11,7 +12,7 @@ use std::alloc::Global;
 
 /// What the row of that number comes to, from the values that were moved to it. The rows from 0 are those of Int, from 17
 /// those of Bool, and from 21 to 28 those of String. Only a text takes memory: one that is given, and that of a panic.
-#[tactic(auto, unfolding(crate::specs::Answers::value_rows))]
+#[tactic(auto, unfolding(ink_code::specs::Prims::value_rows))]
 pub fn value_row(
     alloc: Global,
     limits: &Limits,
