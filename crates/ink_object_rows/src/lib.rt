@@ -1,0 +1,14 @@
+//! What the rows of Array and Option come to, on the objects of a process.
+//!
+//! Each row is a function here, and is exactly its definition in the code machine, for any values at all: operands of
+//! another number or kind are answered as wrong in the way that the definition says. The values were moved out of
+//! registers before; what becomes of a value or a panic is not known here.
+#![tactic(auto)]
+
+mod array_rows;
+mod making;
+mod option_rows;
+mod receiver;
+
+pub use array_rows::{empty_row, size_row};
+pub use option_rows::{none_row, some_row};
