@@ -134,7 +134,7 @@ Moves-gone {before = before} {after = after} m id gone =
 pub AreGone-then : {names : ObjectId → Type 0} {before after : HeapView} {had has : Pairs} → Moves names before after had has → (values : List Value) → AreGone values before.objects → AreGone values after.objects
 AreGone-then m values gone id owns = Moves-gone m id (gone id owns)
 
-positive : (objects : Objects) (id : ObjectId) (object : Object) (n : ℕ) → get objects id ≡ Some object → len objects ≡ n → 0 < n
+pub positive : (objects : Objects) (id : ObjectId) (object : Object) (n : ℕ) → get objects id ≡ Some object → len objects ≡ n → 0 < n
 positive objects id object zero has none =
     absurd (none-some object (sym (get-empty id_cmp id) ∙ ap (λ m. get m id) (sym (empty_of_len objects none)) ∙ has))
 positive objects id object (suc n) has some = omega arith
@@ -147,7 +147,7 @@ one_named : (test : Bool) (object : Object) (P : Type 0) → (test ≡ true → 
 one_named true object P f there = f refl
 one_named false object P f there = absurd (cc)
 
-one_less : (test : Bool) (n m : ℕ) → test ≡ true → 0 < n → m ≡ cond test (n - 1) n → m + 1 ≡ n
+pub one_less : (test : Bool) (n m : ℕ) → test ≡ true → 0 < n → m ≡ cond test (n - 1) n → m + 1 ≡ n
 one_less true n m is some less = omega arith
 one_less false n m is some less = absurd (cc)
 

@@ -1,3 +1,5 @@
 pub mod Moves
+pub mod Owners
 pub mod Parts
 pub mod View
+pub mod Walk

@@ -1,6 +1,9 @@
 //! Cutting the ownership tree of values out of a heap.
-ghost use Rattle.std.specs.Prelude.{◌≡◌, ◌≤◌, IfErr, IfOk, OnErr};
+ghost use Rattle.std.specs.Prelude.{◌≡◌, ◌≤◌, Result, IfErr, IfOk, OnErr};
+ghost use Rattle.ink_code.specs.Trees.{parted_of};
+ghost use Rattle.ink_code.specs.declared.wrong.Wrong.TheVariants as Wrong;
 ghost use Rattle.ink_parcel.specs.Parts.{HoldsTree, Splits};
+ghost use Rattle.ink_parcel.specs.Walk.{OnAbsent, values_in};
 
 use crate::fault::CutFault;
 use crate::joining::put_all;
@@ -12,23 +15,27 @@ use std::alloc::Global;
 
 /// Moves the objects of the ownership tree of some values out of a heap, with their fields and counts.
 ///
-/// The values name their objects by owners, and so do the fields of these. It moves exactly the objects of this tree
-/// that the heap has; so where the whole tree is in the heap, exactly the tree. An object that is named more than once
-/// is moved once. Without memory all objects stay and the values come back.
+/// The values name their objects by owners, and so do the fields of these. The objects are taken one after another:
+/// first those of the values, and then those of the fields of the objects that were taken, in that order.
+///
+/// `Absent` where an object isn't in the heap at its turn, since the heap never had it or since it is owned twice, and
+/// only there; `OutOfMemory` where there is no memory for the next one. Then all objects stay and the values come back.
 pub fn cut(alloc: Global, heap: &mut Heap, values: Items<Value>) -> Result<Parcel, CutFault>
     ensures values { IfOk result (λ parcel. parcel.values ≡ values) }
     ensures tree { IfOk result (λ parcel. HoldsTree heap.old.objects values parcel.objects) }
     ensures objects { IfOk result (λ parcel. Splits heap.old.objects heap.new.objects parcel.objects) }
     ensures room { heap.old.spare ≤ heap.new.spare }
-    ensures back { IfErr result (λ fault. fault ≡ CutFault.OutOfMemory values) }
+    ensures parted { IfOk result (λ parcel. parted_of values heap.old.objects ≡ Result.Ok (record { left = heap.new.objects; taken = parcel.objects })) }
+    ensures absent { IfErr result (λ fault. OnAbsent fault (parted_of values heap.old.objects ≡ Result.Err Wrong.Object)) }
+    ensures back { IfErr result (λ fault. values_in fault ≡ values) }
     ensures err { OnErr result (heap.new.objects ≡ heap.old.objects) }
 {
     let mut objects = Vec::new(alloc);
     match move_tree(heap, &mut objects, values.as_slice()) {
         Ok(()) => Ok(Parcel { values, objects }),
-        Err(_) => {
+        Err(why) => {
             put_all(heap, objects);
-            Err(CutFault::OutOfMemory(values))
+            Err(why.with_values(values))
         }
     }
 }

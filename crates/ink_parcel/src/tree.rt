@@ -1,32 +1,39 @@
 //! Moving the objects of an ownership tree out of a heap, behind one another.
 //!
 //! The objects that were moved are the list of work: each is looked at once, in the order in which they were moved. An
-//! object that is named again isn't there any more, and nothing happens.
-ghost use Rattle.std.specs.Prelude.{◌≡◌, ◌<◌, [], length, Option, IfNone, IfSome, OnOk, Contains};
+//! object that is named again isn't there any more, and the tree is refused.
+ghost use Rattle.std.specs.Prelude.{◌≡◌, ◌<◌, [], ◌∷◌, length, Option, IfNone, IfSome, OnOk, Contains};
 ghost use Rattle.std.specs.FinMap.{get};
 ghost use Rattle.ink_base.specs.Tree.{InTree};
 ghost use Rattle.ink_base.specs.declared.value.Value.TheVariants.{Own};
 ghost use Rattle.ink_base.specs.Objects.{fields_in};
 ghost use Rattle.ink_parcel.specs.Moves.{AreGone, HaveBeenLookedAt, Moves, OwnedAt, fields_at};
+ghost use Rattle.ink_parcel.specs.Walk.{IsParted, Walks};
 
+use crate::fault::MoveFault;
 use ink_base::{Object, ObjectId, Value};
 use ink_heap::Heap;
-use std::alloc::AllocError;
 
-/// Moves one object behind the others, where the heap has it.
+/// Moves one object behind the others.
 fn move_object(
     heap: &mut Heap,
     moved: &mut Vec<(ObjectId, Object)>,
     id: ObjectId,
-) -> Result<(), AllocError>
+) -> Result<(), MoveFault>
     ensures moves { Moves (λ other. other ≡ id) heap.old heap.new moved.old.items moved.new.items }
     ensures gone { OnOk result (get heap.new.objects id ≡ Option.None) }
+    ensures walks { Walks result (Own id ∷ []) heap.old heap.new moved.old.items moved.new.items }
 {
-    moved.reserve(1)?;
-    if let Some(object) = heap.take_out(&id) {
-        moved.push_reserved((id, object));
+    if let Err(_) = moved.reserve(1) {
+        return Err(MoveFault::OutOfMemory);
     }
-    Ok(())
+    match heap.take_out(&id) {
+        None => Err(MoveFault::Absent),
+        Some(object) => {
+            moved.push_reserved((id, object));
+            Ok(())
+        }
+    }
 }
 
 /// Moves the objects that some values own.
@@ -34,9 +41,10 @@ fn move_owned(
     heap: &mut Heap,
     moved: &mut Vec<(ObjectId, Object)>,
     values: &[Value],
-) -> Result<(), AllocError>
+) -> Result<(), MoveFault>
     ensures moves { Moves (λ id. Contains values.now (Own id)) heap.old heap.new moved.old.items moved.new.items }
     ensures gone { OnOk result (AreGone values.now heap.new.objects) }
+    ensures walks { Walks result values.now heap.old heap.new moved.old.items moved.new.items }
 {
     for value in values {
         if let Value::Own(id) = value {
@@ -62,10 +70,11 @@ fn move_fields(
     heap: &mut Heap,
     moved: &mut Vec<(ObjectId, Object)>,
     place: usize,
-) -> Result<(), AllocError>
+) -> Result<(), MoveFault>
     requires { place < length moved.old.items }
     ensures moves { Moves (λ id. Contains (fields_at moved.old.items place) (Own id)) heap.old heap.new moved.old.items moved.new.items }
     ensures gone { OnOk result (AreGone (fields_at moved.old.items place) heap.new.objects) }
+    ensures walks { Walks result (fields_at moved.old.items place) heap.old heap.new moved.old.items moved.new.items }
 {
     for index in 0..moved[place].1.fields.len() {
         if let Some(id) = owned_at(moved, place, index) {
@@ -80,10 +89,11 @@ pub(crate) fn move_tree(
     heap: &mut Heap,
     moved: &mut Vec<(ObjectId, Object)>,
     values: &[Value],
-) -> Result<(), AllocError>
+) -> Result<(), MoveFault>
     requires { moved.old.items ≡ [] }
     ensures moves { Moves (InTree (fields_in heap.old.objects) values.now) heap.old heap.new [] moved.new.items }
     ensures roots { OnOk result (AreGone values.now heap.new.objects) }
+    ensures parted { IsParted result values.now heap.old.objects heap.new.objects moved.new.items }
     ensures below { OnOk result (HaveBeenLookedAt moved.new.items (length moved.new.items) heap.new.objects) }
 {
     move_owned(heap, moved, values)?;

@@ -6,17 +6,13 @@ use Rattle.ink_code.specs.declared.wrong.Wrong.{Wrong}
 use Rattle.ink_code.specs.Machine as machine
 use Rattle.ink_code.specs.Process.{Process}
 use Rattle.ink_code.specs.Trees.{Parcel}
-use Rattle.ink_parcel.specs.View.{ParcelView}
+use Rattle.ink_parcel.specs.View.{parcel_of}
 use Rattle.ink_steps.specs.declared.stepped.Request.{Request}
 use Rattle.ink_steps.specs.declared.stepped.Request.TheVariants as request
 use Rattle.ink_steps.specs.declared.stepped.Stepped.{Stepped}
 use Rattle.ink_steps.specs.declared.stepped.Stepped.TheVariants as stepped
 use Rattle.ink_steps.specs.declared.stepped.StepFault.{StepFault}
 use Rattle.ink_steps.specs.declared.stepped.StepFault.TheVariants as fault
-
--- a parcel as the code machine is written over it
-abbrev pub parcel_of : ParcelView → Parcel
-parcel_of parcel = record { values = parcel.values; objects = parcel.objects }
 
 abbrev pub action_of : Request → Action Parcel
 action_of request.Take = action.Take

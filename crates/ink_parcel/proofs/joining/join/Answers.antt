@@ -3,6 +3,8 @@ use Rattle.std.specs.FinMap.{from_entries, len}
 use Rattle.ink_heap.proofs.PairsLemmas.{len-apart}
 use Rattle.ink_parcel.specs.Moves.{CanBePut}
 use Rattle.ink_parcel.specs.Parts.{Splits}
+use Rattle.ink_parcel.specs.View.{parcel_of}
+use Rattle.ink_parcel.proofs.JoinedLemmas.{joined-split}
 use Rattle.ink_parcel.proofs.PutLemmas.{CanBePut-apart, Splits-put}
 use Rattle.ink_parcel.proofs.joining.join.Goals as goal
 
@@ -24,3 +26,7 @@ returns-clause-objects c =
     let parts = Splits-put whole c.reserve.new.self.objects pairs c.put_all.ensures.objects in
     let old = subst (λ rest. Splits whole rest (from_entries pairs)) c.in_default.ensures.objects parts in
     subst (Splits whole c.args.heap.now.objects) (ap (λ view. view.objects) c.parcel.view_is) old
+
+pub returns-clause-joined : goal.returns-clause-joined
+returns-clause-joined c =
+    joined-split c.put_all.new.heap.objects c.args.heap.now.objects (parcel_of c.args.parcel) (returns-clause-objects c)

@@ -1,9 +1,11 @@
 use Rattle.std.proofs.Common.{◌≡◌, ◌<◌, [], length, ap, sym, ◌∙◌, subst, refl, arith, Some}
+use Rattle.std.proofs.lemmas.Result.{err_from_is_err_and}
 use Rattle.std.specs.List.{slice_get}
 use Rattle.ink_base.specs.declared.ident.ObjectId.{ObjectId}
 use Rattle.ink_base.specs.declared.value.Value.TheVariants.{Own}
 use Rattle.ink_parcel.specs.Moves.{fields_at}
 use Rattle.ink_parcel.proofs.MovesLemmas.{Moves-none, Moves-among, Moves-then, Moves-longer, AreGone-moved, AreGone-other, AreGone-all, owned_name, owns_none, fields_at-then, fields_at-read}
+use Rattle.ink_parcel.proofs.WalkLemmas.{GoesOn-none, GoesOn-unowned, GoesOn-next, GoesOn-all, Fails-at}
 use Rattle.ink_parcel.proofs.tree.move_fields.Goals as goal
 use Rattle.ink_parcel.proofs.tree.move_fields.Goals.{in-Some+in_ok-move_object, in_default}
 
@@ -12,6 +14,7 @@ loop-index-init c = record {
   within = c.requires;
   all = c.len-index-end.ensures ∙ sym (ap length (fields_at-read c.args.moved.now.items c.args.place c.index.result.now c.requires c.index.ensures));
   moves = Moves-none _ c.args.heap.now c.args.moved.now.items;
+  walks = GoesOn-none c.args.heap.now c.args.moved.now.items;
   gone = λ id owns. absurd (owns_none [] id refl owns);
 }
 
@@ -20,6 +23,14 @@ returns-in_err-move_object-clause-moves c =
     let fields = ap (λ pairs. fields_at pairs c.args.place) c.deref.ensures.value ∙ fields_at-then c.loop-index.invariant.moves c.args.place c.requires in
     let own = subst (λ fields. slice_get fields c.loop-index.index ≡ Some (Own c.in-Some.id)) fields c.in-Some.ensures in
     Moves-then c.loop-index.invariant.moves (Moves-among c.in_err-move_object.ensures.moves (owned_name (fields_at c.args.moved.now.items c.args.place) c.loop-index.index c.in-Some.id own))
+
+pub returns-in_err-move_object-clause-walks : goal.returns-in_err-move_object-clause-walks
+returns-in_err-move_object-clause-walks c =
+    let fields = ap (λ pairs. fields_at pairs c.args.place) c.deref.ensures.value ∙ fields_at-then c.loop-index.invariant.moves c.args.place c.requires in
+    let own = subst (λ fields. slice_get fields c.loop-index.index ≡ Some (Own c.in-Some.id)) fields c.in-Some.ensures in
+    let p = err_from_is_err_and c.from_residual.result c.from_residual.ensures.1 in
+    rw (p.1, p.2)
+    (Fails-at _ (fields_at c.args.moved.now.items c.args.place) c.loop-index.index _ own c.loop-index.invariant.walks c.in_err-move_object.ensures.walks)
 
 pub loop-index-preserved : goal.loop-index-preserved
 loop-index-preserved c =
@@ -36,6 +47,7 @@ loop-index-preserved c =
             within = Moves-longer m c.args.place c.loop-index.invariant.within;
             all = all;
             moves = Moves-then c.loop-index.invariant.moves (Moves-among m (owned_name values index w.in-Some.id own));
+            walks = GoesOn-next values index _ own c.loop-index.invariant.walks w.in_ok-move_object.ensures.walks;
             gone = AreGone-moved values index w.in-Some.id m low c.loop-index.invariant.gone own w.in_ok-move_object.ensures.gone;
           })
       | in_default w ↦
@@ -44,6 +56,7 @@ loop-index-preserved c =
             within = c.loop-index.invariant.within;
             all = all;
             moves = c.loop-index.invariant.moves;
+            walks = GoesOn-unowned values index c.loop-index.heap c.loop-index.moved.items low none c.loop-index.invariant.walks;
             gone = AreGone-other values index c.loop-index.heap.objects low c.loop-index.invariant.gone none;
           })
     ]
@@ -51,3 +64,7 @@ loop-index-preserved c =
 pub returns-clause-gone : goal.returns-clause-gone
 returns-clause-gone c =
     AreGone-all (fields_at c.args.moved.now.items c.args.place) c.loop-index.index c.loop-index.heap.objects (omega arith) c.loop-index.invariant.gone
+
+pub returns-clause-walks : goal.returns-clause-walks
+returns-clause-walks c =
+    GoesOn-all (fields_at c.args.moved.now.items c.args.place) c.loop-index.index (omega arith) c.loop-index.invariant.walks
