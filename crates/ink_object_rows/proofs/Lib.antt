@@ -1,2 +1,3 @@
 pub mod ReceiverLemmas
 pub mod RowLemmas
+pub mod RoomLemmas

@@ -27,3 +27,9 @@ RowAnswers outcome (Err fault.OutOfMemory) old new had has = (new ≡ old) × (h
 abbrev pub Comes : RowOutcome → Result Value Wrong → Process → Type 0
 Comes outcome (Ok value) new = outcome ≡ Ok (Gives value, new)
 Comes outcome (Err why) new = outcome ≡ Err why
+
+-- the answer is what was found, or in which way the row is wrong; it can be that there is no memory
+abbrev pub Finds : {A : Type 0} → Result A Wrong → Result A RowFault → Type 0
+Finds found (Ok value) = found ≡ Ok value
+Finds found (Err (fault.Wrong why)) = found ≡ Err why
+Finds found (Err fault.OutOfMemory) = Unit {0}

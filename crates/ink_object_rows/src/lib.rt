@@ -11,4 +11,4 @@ mod option_rows;
 mod receiver;
 
 pub use array_rows::{empty_row, size_row};
-pub use option_rows::{none_row, some_row};
+pub use option_rows::{as_ref_row, none_row, some_row, stdout_row, value_row};

@@ -1,18 +1,23 @@
 //! New objects that rows give.
-ghost use Rattle.std.specs.Prelude.{◌≡◌, ◌≤◌, ◌<◌, ◌^◌, [], length, Option, IsTrue, IfOk, IfNone, Ok, Err, MatchResult};
+ghost use Rattle.std.specs.Prelude.{◌≡◌, ◌≤◌, ◌<◌, ◌^◌, [], length, Option, IsTrue, IfOk, IfNone, true, Ok, Err, MatchResult};
 ghost use Rattle.std.specs.Vec.{vec_capacity};
+ghost use Rattle.std.specs.FinMap.{get};
+ghost use Rattle.ink_base.specs.Objects.{changed_object, counted_down, is_counted};
+ghost use Rattle.ink_code.specs.Machine.{with_objects};
 ghost use Rattle.ink_code.specs.Makes.{with_made};
 ghost use Rattle.ink_code.specs.Objects.{after_copy, lent};
 ghost use Rattle.ink_code.specs.Process.{next_id};
 ghost use Rattle.ink_code.specs.Rows.{gives, gives_option};
-ghost use Rattle.ink_object_rows.specs.Answers.{Comes};
+ghost use Rattle.ink_object_rows.specs.Answers.{Comes, RowAnswers};
 ghost use Rattle.ink_object_rows.specs.Making.{full_text, gives_copy, HasRoom, AllHaveRoom};
 ghost use Rattle.ink_proc.specs.State.{state_of};
 
+use crate::receiver::end_borrow;
 use ink_base::{Items, Limit, Limits, Object, ObjectId, Text, Value};
 use ink_code::Wrong;
 use ink_heap::Heap;
 use ink_proc::{Proc, put_over};
+use ink_rows::{Computed, RowFault};
 use std::alloc::{AllocError, Global};
 
 /// The number of the type of Options, in each code.
@@ -146,4 +151,27 @@ pub(crate) fn give_copy(
         count_copy(&mut proc.heap, value)?;
     }
     Ok(give_option(proc, room, item))
+}
+
+/// The borrow of the receiver ends, and the owner of a new Option of a copy of a value is given, or of none.
+#[tactic(auto, using(crate::proofs::RoomLemmas::room))]
+pub(crate) fn give_lent(
+    alloc: Global,
+    proc: &mut Proc,
+    id: &ObjectId,
+    item: Option<Value>,
+) -> Result<Computed, RowFault>
+    requires counted { is_counted (get proc.old.heap.objects id.now) ≡ true }
+    requires made { proc.old.made < 2 ^ 62 }
+    ensures { RowAnswers (gives_copy item (with_objects (changed_object proc.old.heap.objects id.now counted_down) (state_of proc.old))) result (state_of proc.old) (state_of proc.new) [] [] }
+{
+    if let Some(value) = &item {
+        if !has_room(&proc.heap, value) {
+            return Err(RowFault::OutOfMemory);
+        }
+    }
+    let room = Vec::with_capacity(alloc, 1)?;
+    proc.heap.reserve(1)?;
+    end_borrow(&mut proc.heap, id);
+    Ok(Computed::Gives(give_copy(proc, room, item)?))
 }
