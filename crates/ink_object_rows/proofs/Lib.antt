@@ -1,3 +1,5 @@
 pub mod ReceiverLemmas
+pub mod ChangeLemmas
 pub mod RowLemmas
 pub mod RoomLemmas
+pub mod GetLemmas

@@ -6,9 +6,10 @@
 #![tactic(auto)]
 
 mod array_rows;
+mod items;
 mod making;
 mod option_rows;
 mod receiver;
 
-pub use array_rows::{empty_row, size_row};
+pub use array_rows::{clear_row, empty_row, get_row, pop_row, size_row};
 pub use option_rows::{as_ref_row, none_row, some_row, stdout_row, value_row};
