@@ -3,3 +3,8 @@ pub mod ChangeLemmas
 pub mod RowLemmas
 pub mod RoomLemmas
 pub mod GetLemmas
+pub mod CycleLemmas
+pub mod TargetLemmas
+pub mod TestedLemmas
+pub mod PutLemmas
+pub mod SpotLemmas

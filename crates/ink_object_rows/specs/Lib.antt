@@ -2,3 +2,4 @@ pub mod Answers
 pub mod Making
 pub mod Receiver
 pub mod Items
+pub mod Target

@@ -15,7 +15,7 @@ use ink_rows::{Computed, RowFault};
 use std::alloc::Global;
 
 /// The number of the type of arrays, in each code.
-const ARRAY_KIND: u32 = 7;
+pub(crate) const ARRAY_KIND: u32 = 7;
 
 /// How many items an array has. One of 2^63 items has no Int for that, and is answered as out of memory.
 #[tactic(auto, using(crate::proofs::RowLemmas::reads), unfolding(ink_code::specs::Machine::after))]

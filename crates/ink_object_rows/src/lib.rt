@@ -9,7 +9,10 @@ mod array_rows;
 mod items;
 mod making;
 mod option_rows;
+mod putting;
 mod receiver;
+mod target;
 
 pub use array_rows::{clear_row, empty_row, get_row, pop_row, size_row};
+pub use putting::{push_row, set_row, swap_row};
 pub use option_rows::{as_ref_row, none_row, some_row, stdout_row, value_row};
