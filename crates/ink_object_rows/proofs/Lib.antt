@@ -1,0 +1,10 @@
+pub mod ReceiverLemmas
+pub mod ChangeLemmas
+pub mod RowLemmas
+pub mod RoomLemmas
+pub mod GetLemmas
+pub mod CycleLemmas
+pub mod TargetLemmas
+pub mod TestedLemmas
+pub mod PutLemmas
+pub mod SpotLemmas

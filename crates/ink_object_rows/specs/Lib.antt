@@ -1,0 +1,5 @@
+pub mod Answers
+pub mod Making
+pub mod Receiver
+pub mod Items
+pub mod Target

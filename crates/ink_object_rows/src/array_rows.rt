@@ -1,0 +1,120 @@
+//! The rows of Array. The receiver's borrow ends with the row.
+ghost use Rattle.std.specs.Prelude.{◌≡◌};
+ghost use Rattle.ink_code.specs.ArrayRows.{clear_row, empty_row, get_row, pop_row, size_row};
+ghost use Rattle.ink_proc.specs.State.{state_of};
+ghost use Rattle.ink_object_rows.specs.Answers.{RowAnswers};
+
+use crate::items::{lent_item, pop_item};
+use crate::making::{full_text, give_lent, give_option};
+use crate::receiver::{end_borrow, lone_receiver, receiver};
+use ink_base::{Items, Limits, Object, Value};
+use ink_code::Wrong;
+use ink_proc::{Proc, put_over};
+use ink_rows::operands::{int_of, single};
+use ink_rows::{Computed, RowFault};
+use std::alloc::Global;
+
+/// The number of the type of arrays, in each code.
+pub(crate) const ARRAY_KIND: u32 = 7;
+
+/// How many items an array has. One of 2^63 items has no Int for that, and is answered as out of memory.
+#[tactic(auto, using(crate::proofs::RowLemmas::reads), unfolding(ink_code::specs::Machine::after))]
+pub fn size_row(proc: &mut Proc, values: &[Value]) -> Result<Computed, RowFault>
+    ensures { RowAnswers (size_row values.now (state_of proc.old)) result (state_of proc.old) (state_of proc.new) values.now values.now }
+{
+    let id = lone_receiver(&proc.heap, ARRAY_KIND, values)?;
+    match proc.heap.size(&id) {
+        None => Err(RowFault::Wrong(Wrong::Object)),
+        Some(size) => {
+            if size >= 1 << 63 {
+                return Err(RowFault::OutOfMemory);
+            }
+            end_borrow(&mut proc.heap, &id);
+            Ok(Computed::Gives(Value::Int(size as i64)))
+        }
+    }
+}
+
+/// Whether an array has no items.
+#[tactic(auto, using(crate::proofs::RowLemmas::reads), unfolding(ink_code::specs::Machine::after))]
+pub fn empty_row(proc: &mut Proc, values: &[Value]) -> Result<Computed, RowFault>
+    ensures { RowAnswers (empty_row values.now (state_of proc.old)) result (state_of proc.old) (state_of proc.new) values.now values.now }
+{
+    let id = lone_receiver(&proc.heap, ARRAY_KIND, values)?;
+    match proc.heap.size(&id) {
+        None => Err(RowFault::Wrong(Wrong::Object)),
+        Some(size) => {
+            end_borrow(&mut proc.heap, &id);
+            Ok(Computed::Gives(Value::Bool(size == 0)))
+        }
+    }
+}
+
+/// The last item is taken off and given in an Option.
+#[tactic(auto, using(crate::proofs::RowLemmas::pops), unfolding(ink_code::specs::Machine::after, ink_code::specs::Rows::unless_fails, crate::specs::Items::after_row))]
+pub fn pop_row(
+    alloc: Global,
+    proc: &mut Proc,
+    limits: &Limits,
+    values: &[Value],
+) -> Result<Computed, RowFault>
+    ensures { RowAnswers (pop_row limits.now values.now (state_of proc.old)) result (state_of proc.old) (state_of proc.new) values.now values.now }
+{
+    let id = lone_receiver(&proc.heap, ARRAY_KIND, values)?;
+    if let Some(text) = full_text(alloc, limits, proc.heap.len(), proc.made)? {
+        return Ok(Computed::Raises(text));
+    }
+    let room = Vec::with_capacity(alloc, 1)?;
+    proc.heap.reserve(1)?;
+    let item = pop_item(&mut proc.heap, &id);
+    Ok(Computed::Gives(give_option(proc, room, item)))
+}
+
+/// A borrow of an item is given in a new Option, or a new Option of none where the index names no item.
+///
+/// An item of which 2^62 borrows are counted is answered as out of memory.
+#[tactic(auto, using(crate::proofs::RowLemmas::gets), unfolding(ink_code::specs::Machine::after, ink_code::specs::Rows::unless_fails))]
+pub fn get_row(
+    alloc: Global,
+    proc: &mut Proc,
+    limits: &Limits,
+    values: &[Value],
+) -> Result<Computed, RowFault>
+    ensures { RowAnswers (get_row limits.now values.now (state_of proc.old)) result (state_of proc.old) (state_of proc.new) values.now values.now }
+{
+    let (id, operands) = receiver(&proc.heap, ARRAY_KIND, values)?;
+    let index = int_of(single(operands)?)?;
+    if let Some(text) = full_text(alloc, limits, proc.heap.len(), proc.made)? {
+        return Ok(Computed::Raises(text));
+    }
+    let item = lent_item(alloc, &proc.heap, &id, index)?;
+    give_lent(alloc, proc, &id, item)
+}
+
+/// All items are taken off, and wait to be dropped, the first in front.
+#[tactic(auto, using(crate::proofs::RowLemmas::clears), unfolding(ink_code::specs::Machine::after, crate::specs::Items::after_row))]
+pub fn clear_row(alloc: Global, proc: &mut Proc, values: &[Value]) -> Result<Computed, RowFault>
+    ensures { RowAnswers (clear_row values.now (state_of proc.old)) result (state_of proc.old) (state_of proc.new) values.now values.now }
+{
+    let id = lone_receiver(&proc.heap, ARRAY_KIND, values)?;
+    let Some(object) = proc.heap.take_out(&id) else {
+        return Err(RowFault::Wrong(Wrong::Object));
+    };
+    let Object {
+        kind,
+        tag,
+        fields,
+        count,
+    } = object;
+    match proc.pending.push_all(fields) {
+        Err(fields) => {
+            put_over(&mut proc.heap, id, Object { kind, tag, fields, count });
+            Err(RowFault::OutOfMemory)
+        }
+        Ok(()) => {
+            let fields = Items::new(alloc);
+            put_over(&mut proc.heap, id, Object { kind, tag, fields, count: count - 1 });
+            Ok(Computed::Gives(Value::Nil))
+        }
+    }
+}
