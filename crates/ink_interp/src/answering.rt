@@ -116,12 +116,7 @@ fn got(proc: &mut Proc, code: &Code, parcel: Parcel) -> Result<(), AnswerFault>
 ///
 /// Only a message and the value of a future want memory.
 #[tactic(auto, unfolding(ink_code::specs::Replies::answered))]
-pub fn answer(
-    alloc: Global,
-    proc: &mut Proc,
-    code: &Code,
-    reply: Reply,
-) -> Result<(), AnswerFault>
+pub fn answer(alloc: Global, proc: &mut Proc, code: &Code, reply: Reply) -> Result<(), AnswerFault>
     requires { IsApart reply proc.old.heap.objects }
     ensures { AnswersReply (answered code.now (told reply) (state_of proc.old)) result reply (state_of proc.old) (state_of proc.new) }
 {

@@ -18,11 +18,7 @@ use std::alloc::{AllocError, Global};
 use std::mem;
 
 /// Room for the first frame of a process, and for so many values in its registers.
-fn rooms(
-    alloc: Global,
-    registers: u32,
-    values: u64,
-) -> Result<(Vec<Frame>, Vec<Value>), AllocError>
+fn rooms(alloc: Global, registers: u32, values: u64) -> Result<(Vec<Frame>, Vec<Value>), AllocError>
     ensures none { IfOk result (λ rooms. rooms.0.items ≡ []) }
     ensures one { IfOk result (λ rooms. 1 ≤ vec_capacity rooms.0) }
     ensures empty { IfOk result (λ rooms. rooms.1.items ≡ []) }

@@ -6,8 +6,14 @@
 
 mod answering;
 mod begin;
+mod instr;
+mod prim;
 mod reply;
+mod slicing;
+mod stepping;
 
 pub use answering::answer;
 pub use ink_steps::{Request, StepFault, Stepped};
 pub use reply::{AnswerFault, Reply};
+pub use slicing::slice;
+pub use stepping::step;

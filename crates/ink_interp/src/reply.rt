@@ -8,10 +8,7 @@ pub enum Reply {
     /// It was made, and nothing comes back.
     Done,
     /// A message was taken.
-    Message {
-        method: u32,
-        parcel: Parcel,
-    },
+    Message { method: u32, parcel: Parcel },
     /// A process of this number was made.
     Process(u32),
     /// A future of this number was made, and its promise.
