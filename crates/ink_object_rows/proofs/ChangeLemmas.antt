@@ -1,5 +1,5 @@
 -- An object that is there, after one change and after two.
-use Rattle.std.proofs.Common.{◌≡◌, inl, inr, ◌+◌, ◌-◌, ◌≤◌, ℕ, Bool, true, cond, Option, None, Some, List, [], ◌∷◌, ◌++◌, length, take, refl, sym, ap, ◌∙◌, arith}
+use Rattle.std.proofs.Common.{◌≡◌, inl, inr, ◌-◌, ◌≤◌, true, cond, Option, None, Some, List, [], length, refl, sym, ap, ◌∙◌}
 use Rattle.std.specs.List.{slice_get}
 use Rattle.std.specs.Option.{option_map, option_and_then, option_map_or}
 use Rattle.std.specs.FinMap.{get, insert, remove}
@@ -55,17 +55,19 @@ unfolding after_row
 popped_there None objects id found mid new has is pops =
     let there : get mid.objects id ≡ Some (counted_down found) = ap (λ o. get o id) is ∙ get_changed objects id found counted_down has in
     let none : slice_get found.fields (length found.fields - 1) ≡ None = sym (ap (option_and_then last_field) there) ∙ pops.0 in
-    let all : other_items found.fields ≡ found.fields = take_all (length found.fields - 1) found.fields (short found.fields none) in
-    (sym none,
-     ap (λ view. view.objects) pops.1 ∙ is
-     ∙ sym (changed_object-same (changed_object objects id counted_down) id (counted_down found) (with_fields (other_items found.fields)) (get_changed objects id found counted_down has) (ap (λ items. with_fields items (counted_down found)) all)))
+    let all : other_items found.fields ≡ found.fields = take_all (length found.fields - 1) found.fields (short found.fields none) in (
+      sym none,
+      ap (λ view. view.objects) pops.1 ∙ is
+          ∙ sym (changed_object-same (changed_object objects id counted_down) id (counted_down found) (with_fields (other_items found.fields)) (get_changed objects id found counted_down has) (ap (λ items. with_fields items (counted_down found)) all)),
+    )
 popped_there (Some had) objects id found mid new has is pops =
     let there : get mid.objects id ≡ Some (counted_down found) = ap (λ o. get o id) is ∙ get_changed objects id found counted_down has in
-    let some : slice_get found.fields (length found.fields - 1) ≡ Some had = sym (ap (option_and_then last_field) there) ∙ pops.0 in
-    (sym some,
-     ap (λ view. view.objects) pops.1
-     ∙ ap (λ o. changed_object o id without_last) is
-     ∙ changed_object-alike (changed_object objects id counted_down) id (counted_down found) without_last (with_fields (other_items found.fields)) (get_changed objects id found counted_down has) refl)
+    let some : slice_get found.fields (length found.fields - 1) ≡ Some had = sym (ap (option_and_then last_field) there) ∙ pops.0 in (
+      sym some,
+      ap (λ view. view.objects) pops.1
+          ∙ ap (λ o. changed_object o id without_last) is
+          ∙ changed_object-alike (changed_object objects id counted_down) id (counted_down found) without_last (with_fields (other_items found.fields)) (get_changed objects id found counted_down has) refl,
+    )
 
 -- a heap of which the last item of an array was taken off has as much room as before
 pub popped_room : (result : Option Value) (mid new : HeapView) (id : ObjectId) → IsPopAnswer result mid new id → new.spare ≡ mid.spare

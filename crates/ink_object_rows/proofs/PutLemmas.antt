@@ -1,11 +1,9 @@
 -- Items that are put in an array, and values that are moved out of the operands and back.
-use Rattle.std.proofs.Common.{◌≡◌, ◌<◌, ◌≤◌, ◌-◌, ℕ, Bool, true, false, Option, None, Some, Result, Ok, Err, List, [], ◌∷◌, ◌++◌, length, get_or, set, refl, sym, ap, ◌∙◌, subst, arith}
-use Rattle.std.specs.Prelude.{IsSome, IsSomeAnd}
+use Rattle.std.proofs.Common.{◌≡◌, ℕ, true, Some, Result, Ok, Err, List, [], ◌∷◌, ◌++◌, length, set, sym, ap, ◌∙◌}
 use Rattle.std.specs.List.{slice_get}
-use Rattle.std.specs.Option.{option_map, option_and_then, unwrap_or}
-use Rattle.std.specs.FinMap.{get, insert}
+use Rattle.std.specs.FinMap.{get}
 use Rattle.std.proofs.lemmas.List.{set-set, set-get_or}
-use Rattle.std.proofs.lemmas.Option.{get_or_from_slice_get, slice_get_within, slice_get-get_or}
+use Rattle.std.proofs.lemmas.Option.{get_or_from_slice_get}
 use Rattle.ink_base.specs.declared.ident.ObjectId.{ObjectId}
 use Rattle.ink_base.specs.declared.limits.Limit.TheVariants as limit
 use Rattle.ink_base.specs.declared.object.Object.{Object}
@@ -19,14 +17,12 @@ use Rattle.ink_code.specs.ArrayRows.{push_row, with_items}
 use Rattle.ink_code.specs.Machine.{after, unless, with_objects}
 use Rattle.ink_code.specs.Objects.{array_kind, with_fields}
 use Rattle.ink_code.specs.Process.{Process}
-use Rattle.ink_code.specs.Rows.{RowOutcome, gives, fails, single, unless_fails}
+use Rattle.ink_code.specs.Rows.{gives, fails, single, unless_fails}
 use Rattle.ink_code.specs.Trees.{is_under}
-use Rattle.ink_heap.proofs.ObjectsLemmas.{changed_object-insert}
-use Rattle.ink_object_rows.specs.Answers.{raised}
-use Rattle.ink_object_rows.specs.Receiver.{Received, Receives, received}
+use Rattle.ink_object_rows.specs.Receiver.{received}
 use Rattle.ink_object_rows.proofs.ReceiverLemmas.{receives-received}
 use Rattle.ink_object_rows.proofs.CycleLemmas.{is_under-counted}
-use Rattle.ink_object_rows.proofs.ChangeLemmas.{changed_there, changed_twice, get_changed, insert_back}
+use Rattle.ink_object_rows.proofs.ChangeLemmas.{changed_twice, get_changed}
 use Rattle.ink_object_rows.proofs.TargetLemmas.{set_row-tested, swap_row-tested}
 
 -- what stands in a place is put there again

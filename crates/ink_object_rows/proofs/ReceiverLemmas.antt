@@ -72,11 +72,11 @@ counted-there objects id object has = ap (λ found. change_found found objects i
 
 receives_there : (kind : ℕ) (values : List Value) (objects : Objects) (id : ObjectId) (operands : List Value) (object : Object) → values ≡ Bor id ∷ operands → get objects id ≡ Some object → object.kind ≡ kind → 0 < object.count → Receives (received kind values objects) id operands values objects
 receives_there kind values objects id operands object begins has is some = record {
-    found = object;
-    stands = ap (λ all. received kind all objects) begins ∙ received-there kind objects id operands object has is some ∙ ap (one_of id object operands) (counted-there objects id object has);
-    behind = begins;
-    there = has;
-    counted = ap is_counted has ∙ above object.count some;
+  found = object;
+  stands = ap (λ all. received kind all objects) begins ∙ received-there kind objects id operands object has is some ∙ ap (one_of id object operands) (counted-there objects id object has);
+  behind = begins;
+  there = has;
+  counted = ap is_counted has ∙ above object.count some;
 }
 
 -- what the tests of a receiver tell
@@ -92,12 +92,12 @@ receives_found kind values objects id operands (Some object) tag count begins ha
 pub alone : (kind : ℕ) (values : List Value) (objects : Objects) (id : ObjectId) (operands : List Value) → operands ≡ [] → Receives (received kind values objects) id operands values objects → Receives (received_alone kind values objects) id [] values objects
 unfolding received_alone after
 alone kind values objects id operands none all = record {
-    found = all.found;
-    stands =
+  found = all.found;
+  stands =
       ap (λ answer. after answer (λ one. no_operand one.operands (Ok one))) (all.stands ∙ ap (λ o. Ok (record { id = id; found = all.found; operands = o; left = changed_object objects id counted_down })) none);
-    behind = all.behind ∙ ap (λ o. Bor id ∷ o) none;
-    there = all.there;
-    counted = all.counted;
+  behind = all.behind ∙ ap (λ o. Bor id ∷ o) none;
+  there = all.there;
+  counted = all.counted;
 }
 
 alone_end : (operands : List Value) (one : Received) (further : Received → RowOutcome) → no_operand operands (further one) ≡ after (no_operand operands (Ok one)) further

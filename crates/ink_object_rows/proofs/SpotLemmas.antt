@@ -1,11 +1,11 @@
 -- What the rows that put an item in an array make of it, once all their tests are made.
-use Rattle.std.proofs.Common.{◌≡◌, ◌<◌, ℕ, true, false, Option, None, Some, Result, Ok, Err, List, [], ◌∷◌, ◌++◌, length, get_or, set, refl, sym, ap, ◌∙◌, subst, rules, arith}
+use Rattle.std.proofs.Common.{◌≡◌, ◌<◌, ℕ, true, false, Option, None, Some, Ok, List, [], ◌∷◌, ◌++◌, length, get_or, set, refl, sym, ap, ◌∙◌, subst, rules, arith}
 use Rattle.std.specs.Prelude.{IsSome}
 use Rattle.std.specs.List.{slice_get}
 use Rattle.std.specs.Option.{option_map, option_and_then, unwrap_or}
 use Rattle.std.specs.FinMap.{get, insert}
 use Rattle.std.proofs.lemmas.List.{get_or-set_same, length-set}
-use Rattle.std.proofs.lemmas.Option.{get_or_from_slice_get, slice_get_within, slice_get-get_or}
+use Rattle.std.proofs.lemmas.Option.{slice_get_within, slice_get-get_or}
 use Rattle.ink_base.specs.declared.ident.ObjectId.{ObjectId}
 use Rattle.ink_base.specs.declared.limits.Limit.TheVariants as limit
 use Rattle.ink_base.specs.declared.object.Object.{Object}
@@ -16,13 +16,13 @@ use Rattle.ink_base.specs.Objects.{Objects, changed_object, counted_down, with_f
 use Rattle.ink_base.specs.Panics.{cycle_text}
 use Rattle.ink_code.specs.ArrayRows.{push_row, set_row, swap_row, with_items}
 use Rattle.ink_code.specs.Machine.{after, unless, with_objects}
-use Rattle.ink_code.specs.Objects.{array_kind, with_fields}
+use Rattle.ink_code.specs.Objects.{array_kind}
 use Rattle.ink_code.specs.Process.{Process}
 use Rattle.ink_code.specs.Rows.{RowOutcome, Gives, gives, fails, single, unless_fails}
 use Rattle.ink_code.specs.Trees.{is_under}
 use Rattle.ink_heap.proofs.ObjectsLemmas.{changed_object-same}
 use Rattle.ink_object_rows.specs.Answers.{raised}
-use Rattle.ink_object_rows.specs.Receiver.{Received, Receives, received}
+use Rattle.ink_object_rows.specs.Receiver.{Receives, received}
 use Rattle.ink_object_rows.specs.Target.{HasSpot, on_tested}
 use Rattle.ink_object_rows.proofs.CycleLemmas.{is_under-counted}
 use Rattle.ink_object_rows.proofs.ChangeLemmas.{changed_there, changed_twice, get_changed}

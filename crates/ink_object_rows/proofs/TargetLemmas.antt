@@ -1,10 +1,8 @@
 -- What the rows that put an item in a place come to, once their tests are made.
-use Rattle.std.proofs.Common.{◌≡◌, ℕ, ℤ, Bool, true, false, Option, None, Some, Result, Ok, Err, List, [], ◌∷◌, length, refl, sym, ap, ◌∙◌}
+use Rattle.std.proofs.Common.{◌≡◌, ℕ, ℤ, Bool, true, false, Option, None, Some, Result, Ok, Err, List, ◌∷◌, length, refl, ◌∙◌}
 use Rattle.std.specs.List.{slice_get}
-use Rattle.ink_base.specs.declared.ident.ObjectId.{ObjectId}
 use Rattle.ink_base.specs.declared.value.Value.{Value}
 use Rattle.ink_base.specs.declared.value.Value.TheVariants as v
-use Rattle.ink_base.specs.Objects.{changed_object}
 use Rattle.ink_base.specs.Panics.{cycle_text}
 use Rattle.ink_code.specs.declared.wrong.Wrong.{Wrong}
 use Rattle.ink_code.specs.ArrayRows.{set_row, swap_row, at_item, found_item, unless_cycle, with_item}
@@ -14,7 +12,7 @@ use Rattle.ink_code.specs.Process.{Process}
 use Rattle.ink_code.specs.Rows.{RowOutcome, gives, fails, pair, int_of, place_in, receives}
 use Rattle.ink_code.specs.Trees.{is_under}
 use Rattle.ink_object_rows.specs.Receiver.{Received, received}
-use Rattle.ink_object_rows.specs.Target.{Spot, Tested, cycle_tested, old_tested, place_tested, tested, on_tested}
+use Rattle.ink_object_rows.specs.Target.{Spot, cycle_tested, old_tested, place_tested, tested, on_tested}
 use Rattle.ink_object_rows.proofs.ReceiverLemmas.{receives-received}
 
 -- what a row does with a place

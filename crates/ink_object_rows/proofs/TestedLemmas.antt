@@ -1,5 +1,5 @@
 -- What the tests of a row that puts an item in a place come to, from what each test told.
-use Rattle.std.proofs.Common.{◌≡◌, ℕ, ℤ, Bool, true, false, Option, None, Some, Result, Ok, Err, List, [], ◌∷◌, length, refl, sym, ap, ◌∙◌}
+use Rattle.std.proofs.Common.{◌≡◌, ℕ, ℤ, true, false, None, Some, Result, Ok, Err, List, [], ◌∷◌, length, sym, ap, ◌∙◌}
 use Rattle.std.specs.List.{slice_get}
 use Rattle.std.specs.Option.{option_map, option_and_then, unwrap_or}
 use Rattle.std.specs.FinMap.{get}
@@ -14,7 +14,7 @@ use Rattle.ink_code.specs.Objects.{array_kind}
 use Rattle.ink_code.specs.Rows.{pair, int_of, place_in}
 use Rattle.ink_code.specs.Trees.{is_under}
 use Rattle.ink_object_rows.specs.Receiver.{Received, Receives, received}
-use Rattle.ink_object_rows.specs.Target.{Fails, Goes, HasSpot, Tested, cycle_tested, old_tested, place_tested, tested}
+use Rattle.ink_object_rows.specs.Target.{Fails, HasSpot, cycle_tested, old_tested, place_tested, tested}
 use Rattle.ink_object_rows.proofs.CycleLemmas.{is_under-counted}
 
 both_or : Result (Value × Value) Wrong → Value × Value
@@ -56,12 +56,13 @@ size_is values objects id value index size b =
 -- the index names no item
 pub index_fails : (values : List Value) (objects : Objects) (id : ObjectId) (value : Value) (index : ℤ) (size : ℕ) (text : List ℕ) → Begun values objects id value index size → place_in index size ≡ None → text ≡ index_text index size → (left : Objects) × (tested values objects ≡ Ok (Fails text left))
 index_fails values objects id value index size text b none is =
-    let sized : length b.all.found.fields ≡ size = size_is values objects id value index size b in
-    (changed_object objects id counted_down,
-     begun values objects id value index size b
-     ∙ ap (λ place. place_tested place index (one_of b.all) value) (ap (place_in index) sized ∙ none)
-     ∙ ap (λ count. Ok (Fails (index_text index count) (changed_object objects id counted_down))) sized
-     ∙ ap (λ told. Ok (Fails told (changed_object objects id counted_down))) (sym is))
+    let sized : length b.all.found.fields ≡ size = size_is values objects id value index size b in (
+      changed_object objects id counted_down,
+      begun values objects id value index size b
+          ∙ ap (λ place. place_tested place index (one_of b.all) value) (ap (place_in index) sized ∙ none)
+          ∙ ap (λ count. Ok (Fails (index_text index count) (changed_object objects id counted_down))) sized
+          ∙ ap (λ told. Ok (Fails told (changed_object objects id counted_down))) (sym is),
+    )
 
 at_place : (values : List Value) (objects : Objects) (id : ObjectId) (value : Value) (index : ℤ) (size place : ℕ) (old : Value) (b : Begun values objects id value index size) → place_in index size ≡ Some place → slice_get b.all.found.fields place ≡ Some old → tested values objects ≡ cycle_tested (is_under id value objects) (one_of b.all) value place old
 at_place values objects id value index size place old b named had =
@@ -76,11 +77,12 @@ item_is values objects id value index size place old b had =
 
 -- the array is in the tree of the value
 pub cycle_fails : (values : List Value) (objects : Objects) (id : ObjectId) (value : Value) (index : ℤ) (size place : ℕ) (old : Value) (text : List ℕ) → Begun values objects id value index size → place_in index size ≡ Some place → option_and_then (λ object. slice_get object.fields place) (get objects id) ≡ Some old → is_under id value objects ≡ true → text ≡ cycle_text → (left : Objects) × (tested values objects ≡ Ok (Fails text left))
-cycle_fails values objects id value index size place old text b named had cycle is =
-    (changed_object objects id counted_down,
-     at_place values objects id value index size place old b named (item_is values objects id value index size place old b had)
-     ∙ ap (λ test. cycle_tested test (one_of b.all) value place old) cycle
-     ∙ ap (λ told. Ok (Fails told (changed_object objects id counted_down))) (sym is))
+cycle_fails values objects id value index size place old text b named had cycle is = (
+  changed_object objects id counted_down,
+  at_place values objects id value index size place old b named (item_is values objects id value index size place old b had)
+      ∙ ap (λ test. cycle_tested test (one_of b.all) value place old) cycle
+      ∙ ap (λ told. Ok (Fails told (changed_object objects id counted_down))) (sym is),
+)
 
 -- all tests hold
 pub has_spot : (values : List Value) (objects : Objects) (id : ObjectId) (value : Value) (index : ℤ) (size place : ℕ) (old : Value) → Begun values objects id value index size → place_in index size ≡ Some place → option_and_then (λ object. slice_get object.fields place) (get objects id) ≡ Some old → is_under id value objects ≡ false → HasSpot values objects id place

@@ -1,5 +1,5 @@
 -- What rows change of the items of an array.
-use Rattle.std.specs.Prelude.{ℕ, ℤ, ◌-◌, Option, List, length, take, slice_get}
+use Rattle.std.specs.Prelude.{ℤ, ◌-◌, Option, List, length, take, slice_get}
 use Rattle.std.specs.Option.{option_map}
 use Rattle.ink_base.specs.declared.ident.ObjectId.{ObjectId}
 use Rattle.ink_base.specs.declared.value.Value.{Value}

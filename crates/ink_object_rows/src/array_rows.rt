@@ -108,12 +108,30 @@ pub fn clear_row(alloc: Global, proc: &mut Proc, values: &[Value]) -> Result<Com
     } = object;
     match proc.pending.push_all(fields) {
         Err(fields) => {
-            put_over(&mut proc.heap, id, Object { kind, tag, fields, count });
+            put_over(
+                &mut proc.heap,
+                id,
+                Object {
+                    kind,
+                    tag,
+                    fields,
+                    count,
+                },
+            );
             Err(RowFault::OutOfMemory)
         }
         Ok(()) => {
             let fields = Items::new(alloc);
-            put_over(&mut proc.heap, id, Object { kind, tag, fields, count: count - 1 });
+            put_over(
+                &mut proc.heap,
+                id,
+                Object {
+                    kind,
+                    tag,
+                    fields,
+                    count: count - 1,
+                },
+            );
             Ok(Computed::Gives(Value::Nil))
         }
     }

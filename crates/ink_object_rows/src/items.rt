@@ -58,7 +58,12 @@ pub(crate) fn write_item(heap: &mut Heap, id: &ObjectId, place: u64, value: Valu
 }
 
 /// Puts a value behind the items of an array, which has fewer than `most`. Without memory it comes back.
-pub(crate) fn push_item(heap: &mut Heap, id: &ObjectId, value: Value, most: u64) -> Result<(), Value>
+pub(crate) fn push_item(
+    heap: &mut Heap,
+    id: &ObjectId,
+    value: Value,
+    most: u64,
+) -> Result<(), Value>
     requires { IsSomeAnd (get heap.old.objects id.now) (λ object. length object.fields < most) }
     ensures ok { OnOk result (heap.new ≡ record heap.old { objects = changed_object heap.old.objects id.now (with_more value) }) }
     ensures err { OnErr result (heap.new ≡ heap.old) }

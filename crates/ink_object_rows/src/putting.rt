@@ -55,11 +55,7 @@ pub fn push_row(
 /// An item is put in a place, and the old one is given. A panic where the index names no item, and else where the array is
 /// in the tree of the new one.
 #[tactic(auto, using(crate::proofs::PutLemmas::puts), unfolding(ink_code::specs::Machine::after))]
-pub fn swap_row(
-    alloc: Global,
-    proc: &mut Proc,
-    values: &mut [Value],
-) -> Result<Computed, RowFault>
+pub fn swap_row(alloc: Global, proc: &mut Proc, values: &mut [Value]) -> Result<Computed, RowFault>
     ensures { RowAnswers (swap_row values.old (state_of proc.old)) result (state_of proc.old) (state_of proc.new) values.old values.new }
 {
     let (id, place) = match find_target(alloc, &proc.heap, values)? {
@@ -75,11 +71,7 @@ pub fn swap_row(
 /// An item is put in a place, and the old one waits to be dropped. A panic where the index names no item, and else where
 /// the array is in the tree of the new one.
 #[tactic(auto, using(crate::proofs::PutLemmas::puts), unfolding(ink_code::specs::Machine::after))]
-pub fn set_row(
-    alloc: Global,
-    proc: &mut Proc,
-    values: &mut [Value],
-) -> Result<Computed, RowFault>
+pub fn set_row(alloc: Global, proc: &mut Proc, values: &mut [Value]) -> Result<Computed, RowFault>
     ensures { RowAnswers (set_row values.old (state_of proc.old)) result (state_of proc.old) (state_of proc.new) values.old values.new }
 {
     let (id, place) = match find_target(alloc, &proc.heap, values)? {

@@ -1,4 +1,4 @@
-use Rattle.std.proofs.Common.{rules, ◌≡◌, refl}
+use Rattle.std.proofs.Common.{rules}
 use Rattle.ink_proc.specs.State.{state_of}
 use Rattle.ink_object_rows.proofs.GetLemmas.{get_row-copy, retold}
 use Rattle.ink_object_rows.proofs.array_rows.get_row.Goals as goal

@@ -1,4 +1,4 @@
-use Rattle.std.proofs.Common.{rules, ◌≡◌, refl, ap, ◌∙◌}
+use Rattle.std.proofs.Common.{ap, ◌∙◌}
 use Rattle.ink_object_rows.proofs.ChangeLemmas.{popped_item, popped_room}
 use Rattle.ink_object_rows.proofs.items.pop_item.Goals as goal
 

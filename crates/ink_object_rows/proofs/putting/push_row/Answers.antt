@@ -1,4 +1,4 @@
-use Rattle.std.proofs.Common.{◌≡◌, refl, sym, ap, ◌∙◌, rules}
+use Rattle.std.proofs.Common.{◌≡◌, refl, ap, ◌∙◌, rules}
 use Rattle.std.specs.FinMap.{get}
 use Rattle.ink_base.specs.Objects.{is_counted, with_more}
 use Rattle.ink_proc.specs.State.{state_of}

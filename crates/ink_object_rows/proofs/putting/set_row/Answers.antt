@@ -1,4 +1,4 @@
-use Rattle.std.proofs.Common.{◌≡◌, Ok, refl, sym, ap, ◌∙◌, subst, rules}
+use Rattle.std.proofs.Common.{◌≡◌, Ok, refl, ap, ◌∙◌, subst}
 use Rattle.std.specs.FinMap.{get}
 use Rattle.std.proofs.lemmas.Option.{get_or_from_slice_get}
 use Rattle.ink_base.specs.Objects.{is_counted, with_field}
@@ -29,8 +29,9 @@ pub returns-in-Err : goal.returns-in-Err
 returns-in-Err c =
     let s : HasSpot c.args.values.now c.args.proc.now.heap.objects c.in-Item.id c.in-Item.place = subst (λ target. IsTarget (Ok target) c.args.values.now c.args.proc.now.heap.objects) c.in-Item.is c.in_ok-text.ensures in
     let item : c.replace-item.result ≡ s.value = c.replace-item.ensures.value ∙ get_or_from_slice_get c.args.values.now 2 s.value c.index-values-2.result s.last in
-    let mid : c.write_item-old.new.heap.objects ≡ _ = ap (λ heap. heap.objects) c.write_item-old.ensures.objects in
-    (same_state (state_of c.args.proc.now) c.write_item.new.heap.objects c.push.new.self
-     (objects_back c.args.values.now c.args.proc.now.heap.objects c.in-Item.id c.in-Item.place c.replace-item.result c.write_item-old.result c.in-Err.failed.value c.write_item-old.new.heap.objects c.write_item.new.heap.objects s c.write_item-old.ensures.old mid c.in-Err.ensures.back (ap (λ heap. heap.objects) c.write_item.ensures.objects))
-     c.in-Err.ensures.err,
-     values_back c.args.values.now c.args.proc.now.heap.objects c.in-Item.id c.in-Item.place c.replace-item.result c.replace-item.new.dest c.write_item.result c.write_item-old.new.heap.objects s item mid c.write_item.ensures.old)
+    let mid : c.write_item-old.new.heap.objects ≡ _ = ap (λ heap. heap.objects) c.write_item-old.ensures.objects in (
+      same_state (state_of c.args.proc.now) c.write_item.new.heap.objects c.push.new.self
+          (objects_back c.args.values.now c.args.proc.now.heap.objects c.in-Item.id c.in-Item.place c.replace-item.result c.write_item-old.result c.in-Err.failed.value c.write_item-old.new.heap.objects c.write_item.new.heap.objects s c.write_item-old.ensures.old mid c.in-Err.ensures.back (ap (λ heap. heap.objects) c.write_item.ensures.objects))
+          c.in-Err.ensures.err,
+      values_back c.args.values.now c.args.proc.now.heap.objects c.in-Item.id c.in-Item.place c.replace-item.result c.replace-item.new.dest c.write_item.result c.write_item-old.new.heap.objects s item mid c.write_item.ensures.old,
+    )

@@ -1,4 +1,4 @@
-use Rattle.std.proofs.Common.{rules, ◌≡◌, refl, arith}
+use Rattle.std.proofs.Common.{rules, refl, arith}
 use Rattle.std.specs.FinMap.{get}
 use Rattle.ink_object_rows.proofs.ReceiverLemmas.{receives_found}
 use Rattle.ink_object_rows.proofs.receiver.receiver.Goals as goal
