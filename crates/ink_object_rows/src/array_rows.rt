@@ -20,7 +20,8 @@ pub(crate) const ARRAY_KIND: u32 = 7;
 /// How many items an array has. One of 2^63 items has no Int for that, and is answered as out of memory.
 #[tactic(auto, using(crate::proofs::RowLemmas::reads), unfolding(ink_code::specs::Machine::after))]
 pub fn size_row(proc: &mut Proc, values: &[Value]) -> Result<Computed, RowFault>
-    ensures { RowAnswers (size_row values.now (state_of proc.old)) result (state_of proc.old) (state_of proc.new) values.now values.now }
+    ensures answer { RowAnswers (size_row values.now (state_of proc.old)) result (state_of proc.old) (state_of proc.new) values.now values.now }
+    ensures ran { proc.new.ran ≡ proc.old.ran }
 {
     let id = lone_receiver(&proc.heap, ARRAY_KIND, values)?;
     match proc.heap.size(&id) {
@@ -38,7 +39,8 @@ pub fn size_row(proc: &mut Proc, values: &[Value]) -> Result<Computed, RowFault>
 /// Whether an array has no items.
 #[tactic(auto, using(crate::proofs::RowLemmas::reads), unfolding(ink_code::specs::Machine::after))]
 pub fn empty_row(proc: &mut Proc, values: &[Value]) -> Result<Computed, RowFault>
-    ensures { RowAnswers (empty_row values.now (state_of proc.old)) result (state_of proc.old) (state_of proc.new) values.now values.now }
+    ensures answer { RowAnswers (empty_row values.now (state_of proc.old)) result (state_of proc.old) (state_of proc.new) values.now values.now }
+    ensures ran { proc.new.ran ≡ proc.old.ran }
 {
     let id = lone_receiver(&proc.heap, ARRAY_KIND, values)?;
     match proc.heap.size(&id) {
@@ -58,7 +60,8 @@ pub fn pop_row(
     limits: &Limits,
     values: &[Value],
 ) -> Result<Computed, RowFault>
-    ensures { RowAnswers (pop_row limits.now values.now (state_of proc.old)) result (state_of proc.old) (state_of proc.new) values.now values.now }
+    ensures answer { RowAnswers (pop_row limits.now values.now (state_of proc.old)) result (state_of proc.old) (state_of proc.new) values.now values.now }
+    ensures ran { proc.new.ran ≡ proc.old.ran }
 {
     let id = lone_receiver(&proc.heap, ARRAY_KIND, values)?;
     if let Some(text) = full_text(alloc, limits, proc.heap.len(), proc.made)? {
@@ -80,7 +83,8 @@ pub fn get_row(
     limits: &Limits,
     values: &[Value],
 ) -> Result<Computed, RowFault>
-    ensures { RowAnswers (get_row limits.now values.now (state_of proc.old)) result (state_of proc.old) (state_of proc.new) values.now values.now }
+    ensures answer { RowAnswers (get_row limits.now values.now (state_of proc.old)) result (state_of proc.old) (state_of proc.new) values.now values.now }
+    ensures ran { proc.new.ran ≡ proc.old.ran }
 {
     let (id, operands) = receiver(&proc.heap, ARRAY_KIND, values)?;
     let index = int_of(single(operands)?)?;
@@ -94,7 +98,8 @@ pub fn get_row(
 /// All items are taken off, and wait to be dropped, the first in front.
 #[tactic(auto, using(crate::proofs::RowLemmas::clears), unfolding(ink_code::specs::Machine::after, crate::specs::Items::after_row))]
 pub fn clear_row(alloc: Global, proc: &mut Proc, values: &[Value]) -> Result<Computed, RowFault>
-    ensures { RowAnswers (clear_row values.now (state_of proc.old)) result (state_of proc.old) (state_of proc.new) values.now values.now }
+    ensures answer { RowAnswers (clear_row values.now (state_of proc.old)) result (state_of proc.old) (state_of proc.new) values.now values.now }
+    ensures ran { proc.new.ran ≡ proc.old.ran }
 {
     let id = lone_receiver(&proc.heap, ARRAY_KIND, values)?;
     let Some(object) = proc.heap.take_out(&id) else {

@@ -55,6 +55,7 @@ pub(crate) fn give_made(proc: &mut Proc, kind: u32, tag: u32, fields: Items<Valu
     requires made { proc.old.made < 2 ^ 62 }
     ensures value { result ≡ Value.Own (next_id (state_of proc.old)) }
     ensures process { state_of proc.new ≡ with_made kind tag fields (state_of proc.old) }
+    ensures ran { proc.new.ran ≡ proc.old.ran }
 {
     let id = ObjectId {
         process: proc.number,
@@ -77,7 +78,8 @@ pub(crate) fn give_option(proc: &mut Proc, mut room: Vec<Value>, item: Option<Va
     requires made { proc.old.made < 2 ^ 62 }
     requires empty { room.items ≡ [] }
     requires room { 1 ≤ vec_capacity room }
-    ensures { gives_option item (state_of proc.old) ≡ gives result (state_of proc.new) }
+    ensures answer { gives_option item (state_of proc.old) ≡ gives result (state_of proc.new) }
+    ensures ran { proc.new.ran ≡ proc.old.ran }
 {
     match item {
         None => give_made(proc, OPTION_KIND, NONE_TAG, Items::of(room)),
@@ -145,7 +147,8 @@ pub(crate) fn give_copy(
     requires made { proc.old.made < 2 ^ 62 }
     requires empty { room.items ≡ [] }
     requires room { 1 ≤ vec_capacity room }
-    ensures { Comes (gives_copy item (state_of proc.old)) result (state_of proc.new) }
+    ensures answer { Comes (gives_copy item (state_of proc.old)) result (state_of proc.new) }
+    ensures ran { proc.new.ran ≡ proc.old.ran }
 {
     if let Some(value) = &item {
         count_copy(&mut proc.heap, value)?;
@@ -163,7 +166,8 @@ pub(crate) fn give_lent(
 ) -> Result<Computed, RowFault>
     requires counted { is_counted (get proc.old.heap.objects id.now) ≡ true }
     requires made { proc.old.made < 2 ^ 62 }
-    ensures { RowAnswers (gives_copy item (with_objects (changed_object proc.old.heap.objects id.now counted_down) (state_of proc.old))) result (state_of proc.old) (state_of proc.new) [] [] }
+    ensures answer { RowAnswers (gives_copy item (with_objects (changed_object proc.old.heap.objects id.now counted_down) (state_of proc.old))) result (state_of proc.old) (state_of proc.new) [] [] }
+    ensures ran { proc.new.ran ≡ proc.old.ran }
 {
     if let Some(value) = &item {
         if !has_room(&proc.heap, value) {

@@ -27,7 +27,8 @@ const STDOUT_KIND: u32 = 10;
 /// Whether an Option has a value.
 #[tactic(auto, using(crate::proofs::RowLemmas::reads), unfolding(ink_code::specs::Machine::after))]
 pub fn some_row(proc: &mut Proc, values: &[Value]) -> Result<Computed, RowFault>
-    ensures { RowAnswers (some_row values.now (state_of proc.old)) result (state_of proc.old) (state_of proc.new) values.now values.now }
+    ensures answer { RowAnswers (some_row values.now (state_of proc.old)) result (state_of proc.old) (state_of proc.new) values.now values.now }
+    ensures ran { proc.new.ran ≡ proc.old.ran }
 {
     let id = lone_receiver(&proc.heap, OPTION_KIND, values)?;
     match proc.heap.kind_of(&id) {
@@ -42,7 +43,8 @@ pub fn some_row(proc: &mut Proc, values: &[Value]) -> Result<Computed, RowFault>
 /// Whether an Option has no value.
 #[tactic(auto, using(crate::proofs::RowLemmas::reads), unfolding(ink_code::specs::Machine::after))]
 pub fn none_row(proc: &mut Proc, values: &[Value]) -> Result<Computed, RowFault>
-    ensures { RowAnswers (none_row values.now (state_of proc.old)) result (state_of proc.old) (state_of proc.new) values.now values.now }
+    ensures answer { RowAnswers (none_row values.now (state_of proc.old)) result (state_of proc.old) (state_of proc.new) values.now values.now }
+    ensures ran { proc.new.ran ≡ proc.old.ran }
 {
     let id = lone_receiver(&proc.heap, OPTION_KIND, values)?;
     match proc.heap.kind_of(&id) {
@@ -62,7 +64,8 @@ pub fn stdout_row(
     limits: &Limits,
     values: &[Value],
 ) -> Result<Computed, RowFault>
-    ensures { RowAnswers (stdout_row limits.now values.now (state_of proc.old)) result (state_of proc.old) (state_of proc.new) values.now values.now }
+    ensures answer { RowAnswers (stdout_row limits.now values.now (state_of proc.old)) result (state_of proc.old) (state_of proc.new) values.now values.now }
+    ensures ran { proc.new.ran ≡ proc.old.ran }
 {
     let None = values.split_first() else {
         return Err(RowFault::Wrong(Wrong::Place));
@@ -104,7 +107,8 @@ pub fn as_ref_row(
     limits: &Limits,
     values: &[Value],
 ) -> Result<Computed, RowFault>
-    ensures { RowAnswers (as_ref_row limits.now values.now (state_of proc.old)) result (state_of proc.old) (state_of proc.new) values.now values.now }
+    ensures answer { RowAnswers (as_ref_row limits.now values.now (state_of proc.old)) result (state_of proc.old) (state_of proc.new) values.now values.now }
+    ensures ran { proc.new.ran ≡ proc.old.ran }
 {
     let id = lone_receiver(&proc.heap, OPTION_KIND, values)?;
     if let Some(text) = full_text(alloc, limits, proc.heap.len(), proc.made)? {
@@ -138,7 +142,8 @@ fn panic_borrowed(alloc: Global, proc: &Proc, code: &Code, count: u64) -> Result
 /// The value of an Option, which is given up with it.
 #[tactic(auto, unfolding(ink_code::specs::Machine::given))]
 fn take_value(proc: &mut Proc, id: &ObjectId) -> Result<Value, Wrong>
-    ensures { Comes (value_given (map.get proc.old.heap.objects id.now) id.now (state_of proc.old)) result (state_of proc.new) }
+    ensures answer { Comes (value_given (map.get proc.old.heap.objects id.now) id.now (state_of proc.old)) result (state_of proc.new) }
+    ensures ran { proc.new.ran ≡ proc.old.ran }
 {
     match proc.heap.take_out(id) {
         None => Err(Wrong::Object),
@@ -159,7 +164,8 @@ pub fn value_row(
     code: &Code,
     values: &[Value],
 ) -> Result<Computed, RowFault>
-    ensures { RowAnswers (value_row code.now values.now (state_of proc.old)) result (state_of proc.old) (state_of proc.new) values.now values.now }
+    ensures answer { RowAnswers (value_row code.now values.now (state_of proc.old)) result (state_of proc.old) (state_of proc.new) values.now values.now }
+    ensures ran { proc.new.ran ≡ proc.old.ran }
 {
     let id = owned_by(single(values)?)?;
     let tag = match proc.heap.kind_of(&id) {

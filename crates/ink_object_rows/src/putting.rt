@@ -1,4 +1,5 @@
 //! The rows that put an item in an array. The receiver's borrow ends with the row.
+ghost use Rattle.std.specs.Prelude.{◌≡◌};
 ghost use Rattle.ink_code.specs.ArrayRows.{push_row, set_row, swap_row};
 ghost use Rattle.ink_proc.specs.State.{state_of};
 ghost use Rattle.ink_object_rows.specs.Answers.{RowAnswers};
@@ -24,7 +25,8 @@ pub fn push_row(
     limits: &Limits,
     values: &mut [Value],
 ) -> Result<Computed, RowFault>
-    ensures { RowAnswers (push_row limits.now values.old (state_of proc.old)) result (state_of proc.old) (state_of proc.new) values.old values.new }
+    ensures answer { RowAnswers (push_row limits.now values.old (state_of proc.old)) result (state_of proc.old) (state_of proc.new) values.old values.new }
+    ensures ran { proc.new.ran ≡ proc.old.ran }
 {
     let (id, operands) = receiver(&proc.heap, ARRAY_KIND, values)?;
     let value = single(operands)?;
@@ -56,7 +58,8 @@ pub fn push_row(
 /// in the tree of the new one.
 #[tactic(auto, using(crate::proofs::PutLemmas::puts), unfolding(ink_code::specs::Machine::after))]
 pub fn swap_row(alloc: Global, proc: &mut Proc, values: &mut [Value]) -> Result<Computed, RowFault>
-    ensures { RowAnswers (swap_row values.old (state_of proc.old)) result (state_of proc.old) (state_of proc.new) values.old values.new }
+    ensures answer { RowAnswers (swap_row values.old (state_of proc.old)) result (state_of proc.old) (state_of proc.new) values.old values.new }
+    ensures ran { proc.new.ran ≡ proc.old.ran }
 {
     let (id, place) = match find_target(alloc, &proc.heap, values)? {
         Target::Panic(text) => return Ok(Computed::Raises(text)),
@@ -72,7 +75,8 @@ pub fn swap_row(alloc: Global, proc: &mut Proc, values: &mut [Value]) -> Result<
 /// the array is in the tree of the new one.
 #[tactic(auto, using(crate::proofs::PutLemmas::puts), unfolding(ink_code::specs::Machine::after))]
 pub fn set_row(alloc: Global, proc: &mut Proc, values: &mut [Value]) -> Result<Computed, RowFault>
-    ensures { RowAnswers (set_row values.old (state_of proc.old)) result (state_of proc.old) (state_of proc.new) values.old values.new }
+    ensures answer { RowAnswers (set_row values.old (state_of proc.old)) result (state_of proc.old) (state_of proc.new) values.old values.new }
+    ensures ran { proc.new.ran ≡ proc.old.ran }
 {
     let (id, place) = match find_target(alloc, &proc.heap, values)? {
         Target::Panic(text) => return Ok(Computed::Raises(text)),

@@ -1,4 +1,5 @@
 //! The rows that work on objects, by number.
+ghost use Rattle.std.specs.Prelude.{◌≡◌};
 ghost use Rattle.ink_code.specs.ArrayRows.{array_rows};
 ghost use Rattle.ink_code.specs.OptionRows.{option_rows};
 ghost use Rattle.ink_proc.specs.State.{state_of};
@@ -24,7 +25,8 @@ pub fn array_row(
     row: u32,
     values: &mut [Value],
 ) -> Result<Computed, RowFault>
-    ensures { RowAnswers (array_rows limits.now row values.old (state_of proc.old)) result (state_of proc.old) (state_of proc.new) values.old values.new }
+    ensures answer { RowAnswers (array_rows limits.now row values.old (state_of proc.old)) result (state_of proc.old) (state_of proc.new) values.old values.new }
+    ensures ran { proc.new.ran ≡ proc.old.ran }
 {
     match row {
         29 => size_row(proc, values),
@@ -51,7 +53,8 @@ pub fn option_row(
     row: u32,
     values: &[Value],
 ) -> Result<Computed, RowFault>
-    ensures { RowAnswers (option_rows code.now limits.now row values.now (state_of proc.old)) result (state_of proc.old) (state_of proc.new) values.now values.now }
+    ensures answer { RowAnswers (option_rows code.now limits.now row values.now (state_of proc.old)) result (state_of proc.old) (state_of proc.new) values.now values.now }
+    ensures ran { proc.new.ran ≡ proc.old.ran }
 {
     match row {
         38 => some_row(proc, values),

@@ -19,14 +19,14 @@ write_item-requires c =
     let s : HasSpot c.args.values.now c.args.proc.now.heap.objects c.in-Item.id c.in-Item.place = subst (λ target. IsTarget (Ok target) c.args.values.now c.args.proc.now.heap.objects) c.in-Item.is c.in_ok-text.ensures in
     field_is_written c.args.values.now c.args.proc.now.heap.objects c.in-Item.id c.in-Item.place c.replace-item.result c.write_item-old.new.heap.objects s (ap (λ heap. heap.objects) c.write_item-old.ensures.objects)
 
-pub returns-in-Ok : goal.returns-in-Ok
-returns-in-Ok c =
+pub returns-in-Ok-clause-answer : goal.returns-in-Ok-clause-answer
+returns-in-Ok-clause-answer c =
     let s : HasSpot c.args.values.now c.args.proc.now.heap.objects c.in-Item.id c.in-Item.place = subst (λ target. IsTarget (Ok target) c.args.values.now c.args.proc.now.heap.objects) c.in-Item.is c.in_ok-text.ensures in
     let item : c.replace-item.result ≡ s.value = c.replace-item.ensures.value ∙ get_or_from_slice_get c.args.values.now 2 s.value c.index-values-2.result s.last in
     set_done c.args.values.now (state_of c.args.proc.now) c.in-Item.id c.in-Item.place c.replace-item.result c.write_item-old.result c.write_item-old.new.heap.objects c.end_borrow.new.heap.objects c.push.new.self s item c.write_item-old.ensures.old (ap (λ heap. heap.objects) c.write_item-old.ensures.objects) (ap (λ heap. heap.objects) c.end_borrow.ensures) c.in-Ok.ensures.ok
 
-pub returns-in-Err : goal.returns-in-Err
-returns-in-Err c =
+pub returns-in-Err-clause-answer : goal.returns-in-Err-clause-answer
+returns-in-Err-clause-answer c =
     let s : HasSpot c.args.values.now c.args.proc.now.heap.objects c.in-Item.id c.in-Item.place = subst (λ target. IsTarget (Ok target) c.args.values.now c.args.proc.now.heap.objects) c.in-Item.is c.in_ok-text.ensures in
     let item : c.replace-item.result ≡ s.value = c.replace-item.ensures.value ∙ get_or_from_slice_get c.args.values.now 2 s.value c.index-values-2.result s.last in
     let mid : c.write_item-old.new.heap.objects ≡ _ = ap (λ heap. heap.objects) c.write_item-old.ensures.objects in (
