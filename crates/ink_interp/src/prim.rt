@@ -10,6 +10,7 @@ ghost use Rattle.ink_steps.specs.Answers.{Answers};
 
 use ink_base::{Items, Limits, Value};
 use ink_code::{Code, Wrong};
+use ink_object_rows::{array_row, option_row};
 use ink_proc::Proc;
 use ink_rows::{Computed, RowFault, value_row};
 use ink_steps::{StepFault, Stepped};
@@ -26,12 +27,15 @@ fn row_of(
     row: u32,
     values: &mut [Value],
 ) -> Result<Computed, RowFault>
-    ensures { RowAnswers (row_step code.now limits.now row values.old (state_of proc.old)) result (state_of proc.old) (state_of proc.new) values.old values.new }
+    ensures answer { RowAnswers (row_step code.now limits.now row values.old (state_of proc.old)) result (state_of proc.old) (state_of proc.new) values.old values.new }
+    ensures ran { proc.new.ran ≡ proc.old.ran }
 {
     if row < 29 {
         value_row(alloc, limits, row, values)
+    } else if row < 38 {
+        array_row(alloc, proc, limits, row, values)
     } else {
-        Err(RowFault::OutOfMemory)
+        option_row(alloc, proc, code, limits, row, values)
     }
 }
 

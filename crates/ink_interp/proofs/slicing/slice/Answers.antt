@@ -11,13 +11,13 @@ use Rattle.ink_interp.proofs.slicing.slice.Goals as goal
 pub returns-then-not-went_on : goal.returns-then-not-went_on
 returns-then-not-went_on c =
     slice_ends c.args.code.now c.args.limits.now (state_of c.args.proc.now) c.loop.counter c.args.turns (state_of c.loop.proc) (state_of c.step-came.new.proc) c.step-came.result
-      (omega (arith, c.loop-test.true)) c.loop.invariant.leads c.step-came.ensures c.if-not-went_on.ensures
+    (omega (arith, c.loop-test.true)) c.loop.invariant.leads c.step-came.ensures c.if-not-went_on.ensures
 
 pub loop-preserved : goal.loop-preserved
 loop-preserved c =
     record {
       leads = leads_on c.args.code.now c.args.limits.now (state_of c.args.proc.now) c.loop.counter (state_of c.loop.proc) (state_of c.step-came.new.proc) c.loop.invariant.leads
-        (subst (λ (came : Result Stepped StepFault). Answers (code_step c.args.code.now c.args.limits.now (state_of c.loop.proc)) came (state_of c.loop.proc) (state_of c.step-came.new.proc)) c.if-not-went_on.ensures c.step-came.ensures);
+          (subst (λ (came : Result Stepped StepFault). Answers (code_step c.args.code.now c.args.limits.now (state_of c.loop.proc)) came (state_of c.loop.proc) (state_of c.step-came.new.proc)) c.if-not-went_on.ensures c.step-came.ensures);
     }
 
 pub returns : goal.returns
