@@ -1,4 +1,4 @@
-use Rattle.std.proofs.Common.{◌≡◌, ap, ◌∙◌, sym, subst, arith, Result, Ok}
+use Rattle.std.proofs.Common.{◌≡◌, ap, ◌∙◌, subst, arith, Result}
 use Rattle.ink_code.specs.Slice.{slice_of}
 use Rattle.ink_code.specs.Step.{code_step}
 use Rattle.ink_proc.specs.State.{state_of}
