@@ -8,10 +8,11 @@ use Rattle.ink_code.specs.ArrayRows.{item_at}
 use Rattle.ink_code.specs.Objects.{lent, with_fields}
 use Rattle.ink_code.specs.Rows.{place_in}
 
--- the last item, and the others
+-- the last item
 abbrev pub last_item : List Value → Option Value
 last_item items = slice_get items (length items - 1)
 
+-- the items but for the last
 abbrev pub other_items : List Value → List Value
 other_items items = take (length items - 1) items
 

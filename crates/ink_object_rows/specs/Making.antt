@@ -16,6 +16,7 @@ use Rattle.ink_code.specs.OptionRows.{has_value}
 use Rattle.ink_code.specs.Process.{Process}
 use Rattle.ink_code.specs.Rows.{RowOutcome, gives, gives_option}
 
+-- the first text where there is one, and else the other
 abbrev pub text_or : Option (List ℕ) → Option (List ℕ) → Option (List ℕ)
 text_or None other = other
 text_or (Some text) other = Some text
@@ -27,15 +28,7 @@ full_text limits live made = text_or (reached limit.Objects live limits) (reache
 -- one borrow more can be counted, where the value is one
 unfoldable pub HasRoom : Value → Objects → Type 0
 HasRoom (v.Bor id) objects = IfSome (get objects id) (λ object. object.count < 2 ^ 62)
-HasRoom (v.Int number) objects = Unit {0}
-HasRoom (v.Bool truth) objects = Unit {0}
-HasRoom v.Nil objects = Unit {0}
-HasRoom (v.Txt text) objects = Unit {0}
-HasRoom (v.Own id) objects = Unit {0}
-HasRoom (v.Proc process) objects = Unit {0}
-HasRoom (v.Future future) objects = Unit {0}
-HasRoom (v.Promise future) objects = Unit {0}
-HasRoom v.Empty objects = Unit {0}
+HasRoom value objects = Unit {0}
 
 -- that, where there is a value
 abbrev pub AllHaveRoom : Option Value → Objects → Type 0
@@ -47,13 +40,10 @@ unfoldable pub gives_copy : Option Value → Process → RowOutcome
 gives_copy None p = gives_option None p
 gives_copy (Some value) p = after (after_copy value p.objects) (λ objects. gives_option (Some value) (with_objects objects p))
 
-abbrev pub lent_field : Option Object → Result (Option Value) Wrong
-lent_field None = Err wrong.Object
-lent_field (Some found) = if has_value found then given wrong.Place (slice_get found.fields 0) (λ value. Ok (Some (lent value))) else Ok None
-
 -- a borrow of the value of an Option, where it has one
 unfoldable pub lent_value : Option Object → Result (Option Value) Wrong
-lent_value had = lent_field had
+lent_value None = Err wrong.Object
+lent_value (Some found) = if has_value found then given wrong.Place (slice_get found.fields 0) (λ value. Ok (Some (lent value))) else Ok None
 
 -- the value of an Option, which is given up with it
 abbrev pub value_given : Option Object → ObjectId → Process → RowOutcome

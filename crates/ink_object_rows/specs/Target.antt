@@ -32,14 +32,17 @@ pub data Tested : Type 0 where
   Fails : (text : List ℕ) (left : Objects) → Tested
   Goes : (spot : Spot) → Tested
 
+-- the last test: a panic where the array is in the tree of the new item
 abbrev pub cycle_tested : Bool → Received → Value → ℕ → Value → Result Tested Wrong
 cycle_tested true one value place old = Ok (Fails cycle_text one.left)
 cycle_tested false one value place old = Ok (Goes (record { id = one.id; place = place; value = value; old = old; left = one.left }))
 
+-- the test before, where an old item stands in the place
 abbrev pub old_tested : Option Value → Received → Value → ℕ → Result Tested Wrong
 old_tested None one value place = Err wrong.Place
 old_tested (Some old) one value place = cycle_tested (is_under one.id value one.left) one value place old
 
+-- and that of the index: a panic where it names no place
 abbrev pub place_tested : Option ℕ → ℤ → Received → Value → Result Tested Wrong
 place_tested None index one value = Ok (Fails (index_text index (length one.found.fields)) one.left)
 place_tested (Some place) index one value = old_tested (slice_get one.found.fields place) one value place
