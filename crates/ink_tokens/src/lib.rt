@@ -1,0 +1,14 @@
+//! The tokens of a source, by their kinds and the bytes that they take.
+//!
+//! What stands between two tokens is dropped, but for the line feeds that a token remembers. Texts give several tokens.
+//! Nothing here knows which tokens follow one another in a module.
+#![tactic(auto)]
+
+mod bytes;
+mod found;
+mod gap;
+mod integer;
+mod number;
+mod part;
+mod reading;
+mod words;
