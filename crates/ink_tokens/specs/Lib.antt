@@ -1,6 +1,10 @@
 pub mod Bytes
+pub mod Fault
 pub mod Found
 pub mod Gap
 pub mod Integer
+pub mod Lexes
+pub mod Nest
 pub mod Part
+pub mod Scan
 pub mod Words

@@ -5,10 +5,13 @@
 #![tactic(auto)]
 
 mod bytes;
+mod fault;
 mod found;
 mod gap;
 mod integer;
+mod nesting;
 mod number;
 mod part;
 mod reading;
+mod scanner;
 mod words;
