@@ -1,2 +1,4 @@
+pub mod LexesLemmas
 pub mod NumberLemmas
 pub mod PartLemmas
+pub mod SoundLemmas

@@ -1,5 +1,6 @@
 -- What a source comes to: its tokens, or what is wrong with it.
-use Rattle.std.specs.Prelude.{◌≡◌, ℕ, nat_lt, if◌then◌else◌, List, length, drop, Option, None, Some, Result, Ok, Err, Vec}
+use Rattle.std.specs.Prelude.{◌≡◌, ℕ, ◌<◌, ◌≤◌, nat_lt, All, if◌then◌else◌, List, length, drop, Option, None, Some, Result, Ok, Err, Vec}
+use Rattle.std.specs.declared.alloc.Global.{Global}
 use Rattle.ink_base.specs.declared.token.Token.{Token}
 use Rattle.ink_base.specs.declared.refusal.Rule.TheVariants.{BadToken}
 use Rattle.ink_base.specs.declared.refusal.JudgeFault.{JudgeFault}
@@ -46,7 +47,7 @@ step_at source scan =
 -- the source up to a place is blanks, comments and these tokens, each the longest form at its place
 pub data Lexes (source : List ℕ) : Scan → Type 0 where
   begins : Lexes source start
-  goes : (scan next : Scan) → Lexes source scan → step_at source scan ≡ Goes next → Lexes source next
+  goes : {scan next : Scan} → Lexes source scan → step_at source scan ≡ Goes next → Lexes source next
 
 -- what the source comes to
 pub record ComesTo (source : List ℕ) (outcome : Outcome) : Type 0 where
@@ -55,7 +56,25 @@ pub record ComesTo (source : List ℕ) (outcome : Outcome) : Type 0 where
   pub ends : step_at source scan ≡ Ends outcome
 
 -- the answer is what the source comes to; where there was no memory, nothing is known
-abbrev pub Answers : List ℕ → Result (Vec Token) JudgeFault → Type 0
+abbrev pub Answers : List ℕ → Result (Vec Token Global) JudgeFault → Type 0
 Answers source (Ok tokens) = ComesTo source (Gives tokens.items)
 Answers source (Err (Refused refusal)) = (fault : Fault) × ComesTo source (Refuses fault) × (refusal ≡ refusal_at source fault)
 Answers source (Err OutOfMemory) = Unit {0}
+
+-- a token takes at least a byte of the source
+abbrev pub IsInside : List ℕ → Token → Type 0
+IsInside source token = (token.start < token.end) × (token.end ≤ length source)
+
+-- no place that was kept is behind the place that was read up to
+pub record IsSound (source : List ℕ) (scan : Scan) : Type 0 where
+  pub inside : scan.at ≤ length source
+  pub wide : (first : ℕ) → scan.wide ≡ Some first → first ≤ scan.at
+  pub opened : scan.nest.opened ≤ scan.at
+  pub each : All (IsInside source) scan.tokens
+
+-- the answer is that at the end of the source
+abbrev pub Finishes : List ℕ → Scan → Result (Vec Token Global) JudgeFault → Type 0
+Finishes source scan (Ok tokens) = (end_fault scan.nest.level scan.wide scan.nest.opened ≡ None) × (tokens.items ≡ scan.tokens)
+Finishes source scan (Err (Refused refusal)) =
+    (fault : Fault) × (end_fault scan.nest.level scan.wide scan.nest.opened ≡ Some fault) × (refusal ≡ refusal_at source fault)
+Finishes source scan (Err OutOfMemory) = ⊥

@@ -9,9 +9,12 @@ mod fault;
 mod found;
 mod gap;
 mod integer;
+mod lexing;
 mod nesting;
 mod number;
 mod part;
 mod reading;
 mod scanner;
 mod words;
+
+pub use lexing::tokens;
