@@ -1,3 +1,4 @@
+pub mod AnswerLemmas
 pub mod LexesLemmas
 pub mod NumberLemmas
 pub mod PartLemmas
