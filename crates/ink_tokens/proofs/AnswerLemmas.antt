@@ -23,7 +23,7 @@ unfolding step_by
 lexes-gap source rest scan next count line_feed lexes inside is_rest stands is_next =
     goes lexes
     (step_at-inside source scan (found.Gap count line_feed) inside
-        (stands ∙ ap (found_at scan.nest.level scan.before) is_rest)
+    (stands ∙ ap (found_at scan.nest.level scan.before) is_rest)
     ∙ ap Goes (sym is_next))
 
 -- behind a token
@@ -35,7 +35,7 @@ unfolding step_by
 lexes-token source rest scan next read lexes inside is_rest stands is_next =
     goes lexes
     (step_at-inside source scan (found.Token read) inside
-        (stands ∙ ap (found_at scan.nest.level scan.before) is_rest)
+    (stands ∙ ap (found_at scan.nest.level scan.before) is_rest)
     ∙ ap Goes (sym is_next))
 
 -- where nothing stands that may
@@ -48,8 +48,8 @@ refuses-nothing source rest scan fault lexes inside is_rest stands is_fault = re
   scan = scan;
   lexes = lexes;
   ends =
-    step_at-inside source scan found.Nothing inside (stands ∙ ap (found_at scan.nest.level scan.before) is_rest)
-    ∙ ap (λ f. Ends (Refuses f)) (sym is_fault);
+      step_at-inside source scan found.Nothing inside (stands ∙ ap (found_at scan.nest.level scan.before) is_rest)
+      ∙ ap (λ f. Ends (Refuses f)) (sym is_fault);
 }
 
 -- at the end
@@ -60,9 +60,9 @@ answers-end source scan (Ok tokens) lexes past finishes = record {
   scan = scan;
   lexes = lexes;
   ends =
-    step_at-end source scan past
-    ∙ ap (λ fault. Ends (end_outcome fault scan.tokens)) finishes.0
-    ∙ ap (λ items. Ends (Gives items)) (sym finishes.1);
+      step_at-end source scan past
+      ∙ ap (λ fault. Ends (end_outcome fault scan.tokens)) finishes.0
+      ∙ ap (λ items. Ends (Gives items)) (sym finishes.1);
 }
 answers-end source scan (Err (Refused refusal)) lexes past (fault, is_fault, is_refusal) =
     let comes : ComesTo source (Refuses fault) = record {

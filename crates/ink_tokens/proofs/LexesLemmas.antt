@@ -18,7 +18,7 @@ pub step_at-inside : (source : List ℕ) (scan : Scan) (found : Found) → scan.
 unfolding step_at
 step_at-inside source scan found inside stands =
     ap (λ b. cond b (step_by source scan (found_at scan.nest.level scan.before (drop scan.at source)))
-        (Ends (end_outcome (end_fault scan.nest.level scan.wide scan.nest.opened) scan.tokens)))
+    (Ends (end_outcome (end_fault scan.nest.level scan.wide scan.nest.opened) scan.tokens)))
     (lt-ltb scan.at (length source) inside)
     ∙ ap (step_by source scan) (sym stands)
 
@@ -31,7 +31,7 @@ pub step_at-end : (source : List ℕ) (scan : Scan) → length source ≤ scan.a
 unfolding step_at
 step_at-end source scan past =
     ap (λ b. cond b (step_by source scan (found_at scan.nest.level scan.before (drop scan.at source)))
-        (Ends (end_outcome (end_fault scan.nest.level scan.wide scan.nest.opened) scan.tokens)))
+    (Ends (end_outcome (end_fault scan.nest.level scan.wide scan.nest.opened) scan.tokens)))
     (not_below scan.at (length source) past)
 
 -- from one place to another by steps
@@ -87,5 +87,5 @@ same_outcome step one other is_one is_other = cc
 pub one_outcome : (source : List ℕ) (one other : Outcome) → ComesTo source one → ComesTo source other → one ≡ other
 one_outcome source one other to_one to_other =
     let same : to_one.scan ≡ to_other.scan =
-        ⊎_elim (λ ahead. stays to_one.ends ahead) (λ behind. sym (stays to_other.ends behind)) (meet to_one.lexes to_other.lexes) in
+    ⊎_elim (λ ahead. stays to_one.ends ahead) (λ behind. sym (stays to_other.ends behind)) (meet to_one.lexes to_other.lexes) in
     same_outcome (step_at source to_other.scan) one other (subst (λ s. step_at source s ≡ Ends one) same to_one.ends) to_other.ends

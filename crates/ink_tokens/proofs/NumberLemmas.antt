@@ -17,8 +17,8 @@ scaled-min base great a b more positive same =
     ⊎_elim
     (λ below. let e : min a great ≡ b = omega arith in ap (λ number. min (number * base + more) great) e)
     (λ above.
-        let e : min a great ≡ great = omega arith in
-        ap (λ number. min (number * base + more) great) e ∙ omega (arith, grown base great more positive, grown base b more positive))
+    let e : min a great ≡ great = omega arith in
+    ap (λ number. min (number * base + more) great) e ∙ omega (arith, grown base great more positive, grown base b more positive))
     (order a great)
 
 -- one byte more makes the same of a number and of what is counted of it
@@ -27,9 +27,9 @@ number_behind-min : (base great a b byte : ℕ) → 0 < base → min a great ≡
 unfolding number_behind
 number_behind-min base great a b byte positive same =
     elim (byte == 95) as (λ is_gap. min (cond is_gap (min a great) (min a great * base + digit_value byte)) great
-        ≡ min (cond is_gap b (b * base + digit_value byte)) great) [
-      true ↦ omega arith
-    | false ↦ scaled-min base great a b (digit_value byte) positive same
+    ≡ min (cond is_gap b (b * base + digit_value byte)) great) [
+      | true ↦ omega arith
+      | false ↦ scaled-min base great a b (digit_value byte) positive same
     ]
 
 -- and so do all bytes of a list

@@ -51,10 +51,7 @@ pub(crate) fn run(bytes: &[u8], class: Class) -> usize
     ensures longest { result ≡ prefix_len (is_of class) bytes.now }
     ensures inside { result ≤ length bytes.now }
 {
-    bytes
-        .iter()
-        .take_while(|byte| class.has(**byte))
-        .count()
+    bytes.iter().take_while(|byte| class.has(**byte)).count()
 }
 
 /// Whether a name begins with the byte.

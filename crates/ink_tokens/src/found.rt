@@ -8,7 +8,9 @@ use crate::gap::separator_length;
 use crate::integer::integer_length;
 use crate::part::{begins_opening, part_length};
 use crate::reading::{Before, Change, Form, Found, Level, Read};
-use crate::words::{const_length, ends_bracket, field_length, is_value_word, name_length, symbol_length, word_kind};
+use crate::words::{
+    const_length, ends_bracket, field_length, is_value_word, name_length, symbol_length, word_kind,
+};
 use ink_base::TokenKind;
 
 /// The longer of two forms.
@@ -17,7 +19,11 @@ fn longer(one: Form, other: Form) -> Form
     ensures value { result ≡ longer one other }
     ensures inside { (n : ℕ) → one.length ≤ n → other.length ≤ n → result.length ≤ n }
 {
-    if one.length < other.length { other } else { one }
+    if one.length < other.length {
+        other
+    } else {
+        one
+    }
 }
 
 /// The word at the front that begins as a name does.

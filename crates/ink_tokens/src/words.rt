@@ -7,9 +7,9 @@ use ink_base::TokenKind;
 
 /// The words that the language keeps for itself.
 const KEYWORDS: [&[u8]; 33] = [
-    b"and", b"async", b"break", b"case", b"else", b"enum", b"false", b"fn", b"for", b"if",
-    b"impl", b"import", b"let", b"loop", b"match", b"move", b"mut", b"next", b"nil", b"or",
-    b"pub", b"recover", b"ref", b"return", b"self", b"static", b"throw", b"trait", b"true", b"try",
+    b"and", b"async", b"break", b"case", b"else", b"enum", b"false", b"fn", b"for", b"if", b"impl",
+    b"import", b"let", b"loop", b"match", b"move", b"mut", b"next", b"nil", b"or", b"pub",
+    b"recover", b"ref", b"return", b"self", b"static", b"throw", b"trait", b"true", b"try",
     b"type", b"uni", b"while",
 ];
 

@@ -64,8 +64,8 @@ returns-in-Nothing-clause-answers c =
     let source = c.args.source.now in
     let fault = c.first_fault-fault.result in
     let comes = refuses-nothing source c.bytes_from-rest.result.now (scan_of c.loop-scanner.scanner) fault
-        c.loop-scanner.invariant.lexes c.loop-scanner-test.true c.bytes_from-rest.ensures c.in-Nothing.ensures.value
-        c.first_fault-fault.ensures in
+    c.loop-scanner.invariant.lexes c.loop-scanner-test.true c.bytes_from-rest.ensures c.in-Nothing.ensures.value
+    c.first_fault-fault.ensures in
     subst (λ f. Answers source (Err f)) (sym c.refused.ensures) (fault, comes, refl)
 
 pub returns-clause-answers : goal.returns-clause-answers
