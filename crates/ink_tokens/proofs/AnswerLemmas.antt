@@ -9,9 +9,10 @@ use Rattle.ink_tokens.specs.declared.reading.Found.TheVariants as found
 use Rattle.ink_tokens.specs.declared.reading.Read.{Read}
 use Rattle.ink_tokens.specs.declared.fault.Fault.{Fault}
 use Rattle.ink_tokens.specs.Fault.{first_fault, end_fault}
+use Rattle.ink_tokens.specs.Ending.{Finishes}
 use Rattle.ink_tokens.specs.Found.{found_at}
 use Rattle.ink_tokens.specs.Scan.{Scan, behind_gap, behind_token}
-use Rattle.ink_tokens.specs.Lexes.{Gives, Refuses, Goes, Ends, end_outcome, step_by, step_at, Lexes, goes, ComesTo, Answers, Finishes}
+use Rattle.ink_tokens.specs.Lexes.{Gives, Refuses, Goes, Ends, end_outcome, step_by, step_at, Lexes, goes, ComesTo, Answers}
 use Rattle.ink_tokens.proofs.LexesLemmas.{step_at-inside, step_at-end}
 
 -- behind a blank or a comment

@@ -14,7 +14,8 @@ use Rattle.ink_tokens.specs.declared.fault.Fault.{Fault}
 use Rattle.ink_tokens.specs.Fault.{first_fault, end_fault, wide_behind, is_wide_integer}
 use Rattle.ink_tokens.specs.Nest.{Nest, opened_behind, left, changed}
 use Rattle.ink_tokens.specs.Scan.{Scan, start, behind_gap, behind_token, token_at}
-use Rattle.ink_tokens.specs.Lexes.{IsInside, IsSound}
+use Rattle.ink_tokens.specs.Ending.{IsSound}
+use Rattle.ink_tokens.specs.Lexes.{IsInside}
 
 opened_behind-le : (level : Level) (opened at : ℕ) → opened ≤ at → opened_behind level opened at ≤ at
 unfolding opened_behind

@@ -55,26 +55,20 @@ pub record ComesTo (source : List ℕ) (outcome : Outcome) : Type 0 where
   pub lexes : Lexes source scan
   pub ends : step_at source scan ≡ Ends outcome
 
+-- these are the tokens of the source
+abbrev pub AreTokens : List ℕ → List Token → Type 0
+AreTokens source tokens = ComesTo source (Gives tokens)
+
+-- this is what is wrong with the source
+abbrev pub IsRefused : List ℕ → Fault → Type 0
+IsRefused source fault = ComesTo source (Refuses fault)
+
 -- the answer is what the source comes to; where there was no memory, nothing is known
 abbrev pub Answers : List ℕ → Result (Vec Token Global) JudgeFault → Type 0
-Answers source (Ok tokens) = ComesTo source (Gives tokens.items)
-Answers source (Err (Refused refusal)) = (fault : Fault) × ComesTo source (Refuses fault) × (refusal ≡ refusal_at source fault)
+Answers source (Ok tokens) = AreTokens source tokens.items
+Answers source (Err (Refused refusal)) = (fault : Fault) × IsRefused source fault × (refusal ≡ refusal_at source fault)
 Answers source (Err OutOfMemory) = Unit {0}
 
 -- a token takes at least a byte of the source
 abbrev pub IsInside : List ℕ → Token → Type 0
 IsInside source token = (token.start < token.end) × (token.end ≤ length source)
-
--- no place that was kept is behind the place that was read up to
-pub record IsSound (source : List ℕ) (scan : Scan) : Type 0 where
-  pub inside : scan.at ≤ length source
-  pub wide : (first : ℕ) → scan.wide ≡ Some first → first ≤ scan.at
-  pub opened : scan.nest.opened ≤ scan.at
-  pub each : All (IsInside source) scan.tokens
-
--- the answer is that at the end of the source
-abbrev pub Finishes : List ℕ → Scan → Result (Vec Token Global) JudgeFault → Type 0
-Finishes source scan (Ok tokens) = (end_fault scan.nest.level scan.wide scan.nest.opened ≡ None) × (tokens.items ≡ scan.tokens)
-Finishes source scan (Err (Refused refusal)) =
-    (fault : Fault) × (end_fault scan.nest.level scan.wide scan.nest.opened ≡ Some fault) × (refusal ≡ refusal_at source fault)
-Finishes source scan (Err OutOfMemory) = ⊥

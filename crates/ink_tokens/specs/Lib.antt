@@ -1,4 +1,5 @@
 pub mod Bytes
+pub mod Ending
 pub mod Fault
 pub mod Found
 pub mod Gap

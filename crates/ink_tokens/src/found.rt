@@ -13,6 +13,46 @@ use crate::words::{
 };
 use ink_base::TokenKind;
 
+/// A `{` inside a `${`.
+const OPENED_BRACE: Read = Read {
+    kind: TokenKind::Symbol,
+    length: 1,
+    change: Change::Enter(Level::Braces),
+    before: Before::Other,
+};
+
+/// The `}` that is paired with it.
+const CLOSED_BRACE: Read = Read {
+    kind: TokenKind::Symbol,
+    length: 1,
+    change: Change::Leave,
+    before: Before::Operand,
+};
+
+/// The `}` that belongs to the `${`.
+const CLOSING: Read = Read {
+    kind: TokenKind::Closing,
+    length: 1,
+    change: Change::Leave,
+    before: Before::Other,
+};
+
+/// The quote that closes a text.
+const CLOSING_QUOTE: Read = Read {
+    kind: TokenKind::Quote,
+    length: 1,
+    change: Change::Leave,
+    before: Before::Operand,
+};
+
+/// A `${`.
+const OPENING: Read = Read {
+    kind: TokenKind::Opening,
+    length: 2,
+    change: Change::Enter(Level::Embedded),
+    before: Before::Other,
+};
+
 /// The longer of two forms.
 #[tactic(auto, unfolding(crate::specs::Found::longer))]
 fn longer(one: Form, other: Form) -> Form
@@ -100,47 +140,11 @@ fn brace_at(level: Level, first: u8) -> Option<Read>
     ensures value { result ≡ brace_at level first }
     ensures single { IfSome result (λ read. (read.length ≡ 1) × (0 < first)) }
 {
-    match level {
-        Level::Outside => None,
-        Level::Text(_) => None,
-        Level::Embedded => {
-            if first == b'{' {
-                Some(Read {
-                    kind: TokenKind::Symbol,
-                    length: 1,
-                    change: Change::Enter(Level::Braces),
-                    before: Before::Other,
-                })
-            } else if first == b'}' {
-                Some(Read {
-                    kind: TokenKind::Closing,
-                    length: 1,
-                    change: Change::Leave,
-                    before: Before::Other,
-                })
-            } else {
-                None
-            }
-        }
-        Level::Braces => {
-            if first == b'{' {
-                Some(Read {
-                    kind: TokenKind::Symbol,
-                    length: 1,
-                    change: Change::Enter(Level::Braces),
-                    before: Before::Other,
-                })
-            } else if first == b'}' {
-                Some(Read {
-                    kind: TokenKind::Symbol,
-                    length: 1,
-                    change: Change::Leave,
-                    before: Before::Operand,
-                })
-            } else {
-                None
-            }
-        }
+    match (level, first) {
+        (Level::Embedded | Level::Braces, b'{') => Some(OPENED_BRACE),
+        (Level::Embedded, b'}') => Some(CLOSING),
+        (Level::Braces, b'}') => Some(CLOSED_BRACE),
+        _ => None,
     }
 }
 
@@ -229,20 +233,10 @@ fn text_found(quote: u8, bytes: &[u8]) -> Found
     ensures inside { IsWithin (length bytes.now) result }
 {
     if byte_at(bytes, 0) == quote {
-        return Found::Token(Read {
-            kind: TokenKind::Quote,
-            length: 1,
-            change: Change::Leave,
-            before: Before::Operand,
-        });
+        return Found::Token(CLOSING_QUOTE);
     }
     if begins_opening(bytes) {
-        return Found::Token(Read {
-            kind: TokenKind::Opening,
-            length: 2,
-            change: Change::Enter(Level::Embedded),
-            before: Before::Other,
-        });
+        return Found::Token(OPENING);
     }
     let length = part_length(quote, bytes);
     if length == 0 {

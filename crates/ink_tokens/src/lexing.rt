@@ -1,7 +1,8 @@
 //! The tokens of a source.
 ghost use Rattle.std.specs.Prelude.{◌≡◌, ◌+◌, ◌<◌, ◌^◌, length, All, IfOk};
 ghost use Rattle.ink_tokens.specs.Scan.{scan_of};
-ghost use Rattle.ink_tokens.specs.Lexes.{Outcome, ComesTo, Answers, Finishes, IsInside, IsSound};
+ghost use Rattle.ink_tokens.specs.Lexes.{Outcome, ComesTo, Answers, IsInside};
+ghost use Rattle.ink_tokens.specs.Ending.{Finishes, IsSound};
 
 use crate::bytes::bytes_from;
 use crate::fault::{end_fault, first_fault, refused};

@@ -1,7 +1,8 @@
 use Rattle.std.proofs.Common.{arith, refl, sym, ap, subst, ◌∙◌, ◌+◌, ◌≤◌, length, drop, length-drop, Err}
 use Rattle.ink_base.specs.declared.refusal.Rule.TheVariants.{BadToken}
 use Rattle.ink_tokens.specs.Scan.{scan_of, start}
-use Rattle.ink_tokens.specs.Lexes.{Lexes, begins, Answers, IsSound}
+use Rattle.ink_tokens.specs.Lexes.{Lexes, begins, Answers}
+use Rattle.ink_tokens.specs.Ending.{IsSound}
 use Rattle.ink_tokens.proofs.SoundLemmas.{IsSound-start, IsSound-gap, IsSound-token, first_fault-le}
 use Rattle.ink_tokens.proofs.LexesLemmas.{one_outcome}
 use Rattle.ink_tokens.proofs.AnswerLemmas.{lexes-gap, lexes-token, refuses-nothing, answers-end}

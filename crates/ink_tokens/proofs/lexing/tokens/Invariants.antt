@@ -1,6 +1,7 @@
 use Rattle.std.proofs.Common.{◌-◌, length}
 use Rattle.ink_tokens.specs.Scan.{scan_of}
-use Rattle.ink_tokens.specs.Lexes.{Lexes, IsSound}
+use Rattle.ink_tokens.specs.Lexes.{Lexes}
+use Rattle.ink_tokens.specs.Ending.{IsSound}
 use Rattle.ink_tokens.proofs.lexing.tokens.Given as goal
 
 -- what was read is blanks, comments and these tokens
