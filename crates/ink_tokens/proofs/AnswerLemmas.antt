@@ -1,5 +1,5 @@
 -- How the scan goes on, and what its end answers.
-use Rattle.std.proofs.Common.{◌≡◌, ℕ, ◌+◌, ◌<◌, ◌≤◌, Bool, List, length, drop, Option, None, Some, Result, Ok, Err, Vec, refl, sym, ap, ◌∙◌, subst}
+use Rattle.std.proofs.Common.{◌≡◌, ℕ, ◌<◌, ◌≤◌, Bool, List, length, drop, Result, Ok, Err, Vec, sym, ap, ◌∙◌}
 use Rattle.std.specs.declared.alloc.Global.{Global}
 use Rattle.ink_base.specs.declared.token.Token.{Token}
 use Rattle.ink_base.specs.declared.refusal.Rule.TheVariants.{BadToken}
@@ -8,11 +8,11 @@ use Rattle.ink_base.specs.declared.refusal.JudgeFault.TheVariants.{Refused, OutO
 use Rattle.ink_tokens.specs.declared.reading.Found.TheVariants as found
 use Rattle.ink_tokens.specs.declared.reading.Read.{Read}
 use Rattle.ink_tokens.specs.declared.fault.Fault.{Fault}
-use Rattle.ink_tokens.specs.Fault.{first_fault, end_fault}
+use Rattle.ink_tokens.specs.Fault.{first_fault}
 use Rattle.ink_tokens.specs.Ending.{Finishes}
 use Rattle.ink_tokens.specs.Found.{found_at}
 use Rattle.ink_tokens.specs.Scan.{Scan, behind_gap, behind_token}
-use Rattle.ink_tokens.specs.Lexes.{Gives, Refuses, Goes, Ends, end_outcome, step_by, step_at, Lexes, goes, ComesTo, Answers}
+use Rattle.ink_tokens.specs.Lexes.{Gives, Refuses, Goes, Ends, end_outcome, step_by, Lexes, goes, ComesTo, Answers}
 use Rattle.ink_tokens.proofs.LexesLemmas.{step_at-inside, step_at-end}
 
 -- behind a blank or a comment

@@ -1,16 +1,12 @@
 -- What a step comes to, and that a source comes to one outcome alone.
-use Rattle.std.proofs.Common.{◌≡◌, ℕ, ◌+◌, ◌<◌, ◌≤◌, Bool, true, false, cond, nat_lt, ◌⊎◌, List, [], ◌∷◌, ◌++◌, length, drop, Option, None, Some, refl, arith, sym, ap, ◌∙◌, subst, inl, inr, ⊎_elim}
-use Rattle.std.specs.Prelude.{All}
+use Rattle.std.proofs.Common.{◌≡◌, ℕ, ◌<◌, ◌≤◌, false, cond, nat_lt, ◌⊎◌, List, length, drop, refl, arith, sym, ap, ◌∙◌, subst, inl, inr, ⊎_elim}
 use Rattle.std.proofs.lemmas.Bool.{lt-ltb}
 use Rattle.std.proofs.lemmas.Bool.Decides.{nat_tests}
-use Rattle.std.proofs.lemmas.List.Elements.{All-push}
-use Rattle.ink_base.specs.declared.refusal.Rule.TheVariants.{BadToken}
 use Rattle.ink_tokens.specs.declared.reading.Found.{Found}
-use Rattle.ink_tokens.specs.declared.reading.Found.TheVariants as found
-use Rattle.ink_tokens.specs.Fault.{first_fault, end_fault}
+use Rattle.ink_tokens.specs.Fault.{end_fault}
 use Rattle.ink_tokens.specs.Found.{found_at}
-use Rattle.ink_tokens.specs.Scan.{Scan, start, behind_gap, behind_token}
-use Rattle.ink_tokens.specs.Lexes.{Outcome, Gives, Refuses, Step, Goes, Ends, end_outcome, step_by, step_at, Lexes, begins, goes, ComesTo}
+use Rattle.ink_tokens.specs.Scan.{Scan, start}
+use Rattle.ink_tokens.specs.Lexes.{Outcome, Step, Goes, Ends, end_outcome, step_by, step_at, Lexes, begins, goes, ComesTo}
 
 -- within the source, what comes is what comes of what stands there
 pub step_at-inside : (source : List ℕ) (scan : Scan) (found : Found) → scan.at < length source →

@@ -1,8 +1,7 @@
 -- A number that is counted only up to a greatest one.
-use Rattle.std.proofs.Common.{◌≡◌, ℕ, ◌+◌, ◌*◌, ◌<◌, ◌≤◌, min, Bool, true, false, cond, nat_lt, ◌==◌, List, [], ◌∷◌, fold, drop, lit<, refl, arith, sym, ap, ◌∙◌, ⊎_elim}
+use Rattle.std.proofs.Common.{◌≡◌, ℕ, ◌+◌, ◌*◌, ◌<◌, ◌≤◌, min, true, false, cond, nat_lt, ◌==◌, List, [], ◌∷◌, fold, drop, lit<, refl, arith, ap, ◌∙◌, ⊎_elim}
 use Rattle.std.proofs.str.Laws.{order}
 use Rattle.std.specs.Char.{digit_value}
-use Rattle.std.proofs.lemmas.Grind.{common_steps}
 use Rattle.std.proofs.lemmas.Bool.Decides.{nat_tests}
 use Rattle.ink_tokens.specs.Integer.{number_behind, number_of, magnitude, begins_hexadecimal}
 

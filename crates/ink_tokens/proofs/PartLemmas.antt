@@ -1,10 +1,8 @@
 -- A part ends where no character and no escape stands, and else goes on behind it.
-use Rattle.std.proofs.Common.{◌≡◌, ℕ, ◌+◌, ◌<◌, Bool, true, false, cond, ◌||◌, ◌&&◌, ◌==◌, List, [], ◌∷◌, length, drop, refl, arith, sym, ap, ◌∙◌, subst}
-use Rattle.std.specs.Prelude.{slice_index}
+use Rattle.std.proofs.Common.{◌≡◌, ℕ, ◌+◌, ◌<◌, List, [], ◌∷◌, drop, refl, arith, sym, ap, ◌∙◌, subst}
 use Rattle.std.proofs.lemmas.Grind.{common_steps}
 use Rattle.std.proofs.lemmas.List.{drop-drop}
-use Rattle.ink_tokens.specs.Bytes.{is_escaped}
-use Rattle.ink_tokens.specs.Part.{part_length, unit_length, begins_opening}
+use Rattle.ink_tokens.specs.Part.{part_length, unit_length}
 
 -- where no unit stands, no part does
 part_length-ends : (quote : ℕ) (bytes : List ℕ) → unit_length quote bytes ≡ 0 → part_length quote bytes ≡ 0

@@ -1,5 +1,5 @@
 -- What is kept of a source that was read, and what its end answers.
-use Rattle.std.specs.Prelude.{◌≡◌, ℕ, ◌≤◌, All, List, length, Option, None, Some, Result, Ok, Err, Vec}
+use Rattle.std.specs.Prelude.{◌≡◌, ℕ, ◌≤◌, All, List, length, None, Some, Result, Ok, Err, Vec}
 use Rattle.std.specs.declared.alloc.Global.{Global}
 use Rattle.ink_base.specs.declared.token.Token.{Token}
 use Rattle.ink_base.specs.declared.refusal.JudgeFault.{JudgeFault}

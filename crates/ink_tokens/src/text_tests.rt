@@ -21,6 +21,19 @@ fn texts(rt: HostRuntime) -> Result<(), Fail> {
             "'a\n'\n'b'",
             "Quote 0-1, Part 1-3, Quote 3-4, /Quote 5-6, Part 6-7, Quote 7-8",
         ),
+    ] {
+        assert_eq!(rt;
+            told(rt.alloc(), source.as_bytes())?.as_str(),
+            wanted,
+            "{source}"
+        );
+    }
+    Ok(())
+}
+
+#[test]
+fn nested_texts(rt: HostRuntime) -> Result<(), Fail> {
+    for (source, wanted) in [
         (
             "'${1}'",
             "Quote 0-1, Opening 1-3, Int 3-4, Closing 4-5, Quote 5-6",

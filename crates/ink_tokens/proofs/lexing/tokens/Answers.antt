@@ -1,6 +1,6 @@
-use Rattle.std.proofs.Common.{arith, refl, sym, ap, subst, ◌∙◌, ◌+◌, ◌≤◌, length, drop, length-drop, Err}
+use Rattle.std.proofs.Common.{arith, refl, sym, ap, subst, ◌≤◌, length, length-drop, Err}
 use Rattle.ink_base.specs.declared.refusal.Rule.TheVariants.{BadToken}
-use Rattle.ink_tokens.specs.Scan.{scan_of, start}
+use Rattle.ink_tokens.specs.Scan.{scan_of}
 use Rattle.ink_tokens.specs.Lexes.{Lexes, begins, Answers}
 use Rattle.ink_tokens.specs.Ending.{IsSound}
 use Rattle.ink_tokens.proofs.SoundLemmas.{IsSound-start, IsSound-gap, IsSound-token, first_fault-le}

@@ -1,5 +1,5 @@
-use Rattle.std.proofs.Common.{arith, ◌≡◌, ◌+◌, length, drop, length-drop, ap, ◌∙◌}
-use Rattle.ink_tokens.specs.Part.{unit_length, part_length}
+use Rattle.std.proofs.Common.{arith, ◌+◌, length, length-drop, ap, ◌∙◌}
+use Rattle.ink_tokens.specs.Part.{unit_length}
 use Rattle.ink_tokens.proofs.PartLemmas.{part_goes_on}
 use Rattle.ink_tokens.proofs.part.part_length.Goals as goal
 
