@@ -18,6 +18,7 @@ step_at-inside source scan found inside stands =
     (lt-ltb scan.at (length source) inside)
     ∙ ap (step_by source scan) (sym stands)
 
+-- a number is not below one that is no greater
 not_below : (a b : ℕ) → b ≤ a → nat_lt a b ≡ false
 not_below a b above = grind (arith, nat_tests)
 

@@ -17,6 +17,7 @@ use Rattle.ink_tokens.specs.Scan.{Scan, start, behind_gap, behind_token, token_a
 use Rattle.ink_tokens.specs.Ending.{IsSound}
 use Rattle.ink_tokens.specs.Lexes.{IsInside}
 
+-- the outermost open quote stands before the place
 opened_behind-le : (level : Level) (opened at : ℕ) → opened ≤ at → opened_behind level opened at ≤ at
 unfolding opened_behind
 opened_behind-le Outside opened at le = omega arith
@@ -24,20 +25,24 @@ opened_behind-le (Text quote) opened at le = le
 opened_behind-le Embedded opened at le = le
 opened_behind-le Braces opened at le = le
 
+-- so it does one level further out
 left-le : (outer : List Level) (opened at : ℕ) → opened ≤ at → (left outer opened).opened ≤ at
 left-le [] opened at le = le
 left-le (level ∷ outer) opened at le = le
 
+-- and behind any token
 changed-le : (nest : Nest) (change : Change) (at : ℕ) → nest.opened ≤ at → (changed nest change at).opened ≤ at
 unfolding changed
 changed-le nest Stay at le = le
 changed-le nest (Enter inner) at le = opened_behind-le nest.level nest.opened at le
 changed-le nest Leave at le = left-le nest.outer nest.opened at le
 
+-- a place that is kept now is this one
 chosen-le : (is_wide : Bool) (at first : ℕ) → cond is_wide (Some at) None ≡ Some first → first ≤ at
 chosen-le true at first is = let e : at ≡ first = cc in omega arith
 chosen-le false at first is = cc
 
+-- the first integer that doesn't fit stands before the place
 wide_behind-le : (wide : Option ℕ) (at : ℕ) (kind : TokenKind) (text : List ℕ) →
     ((first : ℕ) → wide ≡ Some first → first ≤ at) → (first : ℕ) → wide_behind wide at kind text ≡ Some first → first ≤ at
 unfolding wide_behind
@@ -79,6 +84,7 @@ IsSound-token source scan read sound some inside = record {
   each = All-push (IsInside source) scan.tokens (token_at scan read) sound.each (omega arith, inside);
 }
 
+-- either of two faults is not behind the place
 chosen_fault-le : (is_before : Bool) (rule : Rule) (byte first at : ℕ) → byte ≤ at → first ≤ at →
     (fault_between is_before rule byte first).byte ≤ at
 chosen_fault-le true rule byte first at byte_le first_le = byte_le

@@ -12,6 +12,7 @@ pub record Nest : Type 0 where
   pub outer : List Level
   pub opened : ℕ
 
+-- a nesting as it is seen here
 abbrev pub nest_of : Nesting → Nest
 nest_of nesting = record { level = nesting.level; outer = reverse nesting.outer.items; opened = nesting.opened }
 

@@ -17,6 +17,7 @@ pub record Scan : Type 0 where
   pub wide : Option ℕ
   pub tokens : List Token
 
+-- a scanner as it is seen here
 abbrev pub scan_of : Scanner → Scan
 scan_of scanner =
     record { at = scanner.at; before = scanner.before; nest = nest_of scanner.nesting; wide = scanner.wide; tokens = scanner.tokens.items }

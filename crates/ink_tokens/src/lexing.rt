@@ -14,11 +14,13 @@ use std::alloc::Global;
 
 /// The tokens of a source, in order.
 ///
-/// Their bytes are counted from the start of the source. It takes time in proportion to the bytes of the source.
+/// They are those of the definition and no others. It takes time in proportion to the bytes of the source. The bytes
+/// of comments and of texts may be any.
 ///
 /// Refused are, at a byte of the source: `BadToken` where no form begins, or at a backslash that begins no escape;
 /// `IntTooWide` at the first integer outside the signed 64 bits; `UnendedText` at the outermost quote that is open
-/// where the source ends. Where there are two faults, the one at the lesser byte is told.
+/// where the source ends. Nothing is read behind a `BadToken`. Where there are two faults, that at the lesser byte is
+/// told. `OutOfMemory` says nothing of the source.
 pub fn tokens(alloc: Global, source: &[u8]) -> Result<Vec<Token>, JudgeFault>
     requires { length source.now + 1 < 2 ^ 32 }
     ensures answers { Answers source.now result }
