@@ -8,4 +8,5 @@ pub mod Lexes
 pub mod Nest
 pub mod Part
 pub mod Scan
+pub mod Spelling
 pub mod Words
