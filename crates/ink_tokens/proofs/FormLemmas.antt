@@ -1,10 +1,9 @@
 -- What a form takes at the front is spelled so.
-use Rattle.std.proofs.Common.{◌≡◌, ℕ, zero, suc, ◌+◌, ◌-◌, ◌<◌, ◌≤◌, max, Bool, true, false, cond, ◌&&◌, ◌||◌, ◌==◌, ◌⊎◌, List, [], ◌∷◌, length, take, drop, refl, arith, sym, ap, ◌∙◌, subst, ⊎_elim, inl, inr, eq-eqb, eqb-true, leb-true, nat_le, nat_lt, get_or-take, length-take-le}
+use Rattle.std.proofs.Common.{◌≡◌, ℕ, zero, suc, ◌+◌, ◌-◌, ◌<◌, max, Bool, true, false, cond, ◌&&◌, ◌||◌, ◌==◌, List, [], ◌∷◌, length, take, drop, refl, arith, sym, ap, ◌∙◌, subst, ⊎_elim, inl, inr, eqb-true, leb-true, nat_le, nat_lt, get_or-take, length-take-le}
 use Rattle.std.specs.Prelude.{slice_index}
 use Rattle.std.proofs.str.Laws.{order}
 use Rattle.std.proofs.lemmas.List.{take-take}
 use Rattle.std.specs.List.{list_all, list_any, prefix_len}
-use Rattle.std.proofs.lemmas.Bool.Decides.{nat_tests}
 use Rattle.std.specs.Int.{is_in_range}
 use Rattle.std.specs.Char.{is_ascii_digit, is_ascii_hexdigit, is_ascii_uppercase, is_ascii_lowercase}
 use Rattle.ink_tokens.specs.declared.bytes.Class.TheVariants.{Word, Decimal, Hexadecimal}
@@ -13,7 +12,7 @@ use Rattle.ink_tokens.specs.declared.reading.Form.{Form}
 use Rattle.ink_tokens.specs.Found.{longer, name_form, form_at}
 use Rattle.ink_tokens.specs.Words.{name_length, const_length, field_length, symbol_length, is_pair, is_single, word_run}
 use Rattle.ink_tokens.specs.Integer.{decimal_length, begins_hexadecimal, hexadecimal_length, hexadecimal_run, unsigned_length, begins_signed, integer_length}
-use Rattle.ink_tokens.specs.Spelling.{IsName, IsConst, IsField, IsDecimal, IsHexadecimal, IsUnsigned, IsSigned, IsInteger, IsSymbol, IsSpelled, spelled_name, spelled_const, spelled_field, spelled_integer, spelled_symbol}
+use Rattle.ink_tokens.specs.Spelling.{IsName, IsConst, IsField, IsDecimal, IsHexadecimal, IsUnsigned, IsInteger, IsSymbol, IsSpelled, spelled_name, spelled_const, spelled_field, spelled_integer, spelled_symbol}
 use Rattle.ink_tokens.proofs.SpellingLemmas.{both, first_byte, capital_form, field_form, integer_form, symbol_form, word_form, other_form}
 
 -- a choice that takes a byte passed its test
@@ -26,16 +25,20 @@ both-one : (a b : Bool) → (a && b) ≡ true → a ≡ true
 both-one true b all = refl
 both-one false b all = all
 
+-- and so did the other
 both-other : (a b : Bool) → (a && b) ≡ true → b ≡ true
 both-other true b all = all
 both-other false b all = cc
 
+-- the two ways to write one more
 one_more : (n : ℕ) → suc n ≡ 1 + n
 one_more n = omega arith
 
+-- and two more
 two_more : (n : ℕ) → suc (suc n) ≡ 2 + n
 two_more n = omega arith
 
+-- a run with one byte more in front of it
 run-passes-step : (p : ℕ → Bool) (byte : ℕ) (bytes : List ℕ) (b : Bool) → p byte ≡ b →
     list_all p (take (prefix_len p bytes) bytes) ≡ true → list_all p (take (cond b (1 + prefix_len p bytes) 0) (byte ∷ bytes)) ≡ true
 run-passes-step p byte bytes true is all =
@@ -60,10 +63,12 @@ run-spelled test p bytes some =
     subst (λ k. (test (slice_index (take k bytes) 0) ≡ true) × (list_all p (take k bytes) ≡ true)) (sym same)
     (ap test (first_byte run bytes positive) ∙ is, run-passes p bytes)
 
+-- a CONST
 pub const-spelled : (bytes : List ℕ) → 0 < const_length bytes → IsConst (take (const_length bytes) bytes)
 unfolding const_length
 const-spelled bytes some = run-spelled is_ascii_uppercase (is_of Word) bytes some
 
+-- a decimal integer
 pub decimal-spelled : (bytes : List ℕ) → 0 < decimal_length bytes → IsDecimal (take (decimal_length bytes) bytes)
 unfolding decimal_length
 decimal-spelled bytes some = run-spelled is_ascii_digit (is_of Decimal) bytes some
@@ -84,6 +89,7 @@ begins_run [] begins = let none : false ≡ true = begins in cc
 begins_run (byte ∷ bytes) begins =
     subst (λ b. 0 < cond b (1 + word_run bytes) 0) (sym (begins_word byte begins)) (omega arith)
 
+-- a FIELD
 pub field-spelled : (bytes : List ℕ) → 0 < field_length bytes → IsField (take (field_length bytes) bytes)
 unfolding field_length
 field-spelled [] some = absurd (omega arith)
@@ -102,6 +108,7 @@ more_of : (b : Bool) → 0 < cond (b && false) (cond false 2 0) 0 → 0 < cond (
 more_of true some = some
 more_of false some = some
 
+-- a hexadecimal integer
 pub hexadecimal-spelled : (bytes : List ℕ) → 0 < hexadecimal_length bytes → IsHexadecimal (take (hexadecimal_length bytes) bytes)
 unfolding hexadecimal_length begins_hexadecimal
 hexadecimal-spelled [] some = absurd (omega arith)
@@ -116,10 +123,13 @@ hexadecimal-spelled (first ∷ second ∷ rest) some =
     let inner : cond test (cond digit (2 + run) 0) 0 ≡ cond digit (2 + run) 0 = ap (λ b. cond b (cond digit (2 + run) 0) 0) is in
     let has = passed digit (2 + run) (subst (λ k. 0 < k) inner some) in
     let same : suc (suc run) ≡ cond test (cond digit (2 + run) 0) 0 =
-        two_more run ∙ sym (inner ∙ ap (λ b. cond b (2 + run) 0) has) in
-    subst (λ k. IsHexadecimal (take k (first ∷ second ∷ rest))) same
-    (eqb-true first 48 (both-one (first == 48) (second == 120) is), eqb-true second 120 (both-other (first == 48) (second == 120) is),
-    run-passes (is_of Hexadecimal) rest, has)
+    two_more run ∙ sym (inner ∙ ap (λ b. cond b (2 + run) 0) has) in
+    subst (λ k. IsHexadecimal (take k (first ∷ second ∷ rest))) same (
+      eqb-true first 48 (both-one (first == 48) (second == 120) is),
+      eqb-true second 120 (both-other (first == 48) (second == 120) is),
+      run-passes (is_of Hexadecimal) rest,
+      has,
+    )
 
 -- the greater of two numbers is one of them
 greater : (P : ℕ → Type 0) (a b : ℕ) → 0 < max a b → (0 < a → P a) → (0 < b → P b) → P (max a b)
@@ -129,6 +139,7 @@ greater P a b some one other =
     (λ more. let e : a ≡ max a b = omega arith in subst P e (one (omega arith)))
     (order a b)
 
+-- an integer without a sign
 pub unsigned-spelled : (bytes : List ℕ) → 0 < unsigned_length bytes → IsUnsigned (take (unsigned_length bytes) bytes)
 unfolding unsigned_length
 unsigned-spelled bytes some =
@@ -144,6 +155,7 @@ digit_run (first ∷ rest) digit =
     (λ b. 0 < max (cond b (cond (b || first == 95) (1 + prefix_len (is_of Decimal) rest) 0) 0) (hexadecimal_length (first ∷ rest)))
     (sym digit) (omega arith)
 
+-- an integer, by whether it has a sign
 integer-choice : (b : Bool) (may_be_signed : Bool) (bytes : List ℕ) →
     b ≡ (may_be_signed && begins_signed bytes) →
     0 < cond b (1 + unsigned_length (drop 1 bytes)) (unsigned_length bytes) →
@@ -162,6 +174,7 @@ integer-choice true may_be_signed (first ∷ rest) is some =
     subst (λ k. IsInteger may_be_signed (take k (first ∷ rest))) (one_more count)
     (inr (may, minus, ap is_ascii_digit (first_byte count rest positive) ∙ digit, unsigned-spelled rest positive))
 
+-- an integer
 pub integer-spelled : (may_be_signed : Bool) (bytes : List ℕ) → 0 < integer_length may_be_signed bytes →
     IsInteger may_be_signed (take (integer_length may_be_signed bytes) bytes)
 unfolding integer_length
@@ -179,6 +192,7 @@ unfolding is_single
 single_some zero is = let none : false ≡ true = is in cc
 single_some (suc byte) is = omega arith
 
+-- a symbol, by how many bytes it has
 symbol-choice : (b c : Bool) (bytes : List ℕ) → b ≡ (nat_le 2 (length bytes) && is_pair (take 2 bytes)) →
     c ≡ is_single (slice_index bytes 0) → 0 < cond b 2 (cond c 1 0) → IsSymbol (take (cond b 2 (cond c 1 0)) bytes)
 symbol-choice true c bytes pair single some =
@@ -189,11 +203,13 @@ symbol-choice false true bytes pair single some =
     inr (length-take-le 1 bytes (omega arith), ap is_single (first_byte 1 bytes (omega arith)) ∙ sym single)
 symbol-choice false false bytes pair single some = absurd (omega arith)
 
+-- a symbol
 pub symbol-spelled : (bytes : List ℕ) → 0 < symbol_length bytes → IsSymbol (take (symbol_length bytes) bytes)
 unfolding symbol_length
 symbol-spelled bytes some =
     symbol-choice (nat_le 2 (length bytes) && is_pair (take 2 bytes)) (is_single (slice_index bytes 0)) bytes refl refl some
 
+-- a name, by whether it ends with a ?
 name-choice : (b : Bool) (bytes : List ℕ) → begins_name (slice_index bytes 0) ≡ true →
     b ≡ (slice_index bytes (word_run bytes) == 63) →
     IsName (take (cond b (word_run bytes + 1) (word_run bytes)) bytes)
@@ -206,14 +222,14 @@ name-choice true bytes begins is =
     let within = stands bytes run (omega arith) in
     let size : run ≡ length text - 1 = omega (arith, length-take-le (run + 1) bytes (omega arith)) in
     let all : list_all (is_of Word) (take run text) ≡ true =
-        subst (λ front. list_all (is_of Word) front ≡ true) (sym (take-take run (run + 1) bytes (omega arith)))
-        (run-passes (is_of Word) bytes) in
-    let last : slice_index text run ≡ 63 = get_or-take (run + 1) bytes run 0 (omega arith) ∙ mark in
-    (
+    subst (λ front. list_all (is_of Word) front ≡ true) (sym (take-take run (run + 1) bytes (omega arith)))
+    (run-passes (is_of Word) bytes) in
+    let last : slice_index text run ≡ 63 = get_or-take (run + 1) bytes run 0 (omega arith) ∙ mark in (
       ap begins_name (first_byte (run + 1) bytes (omega arith)) ∙ begins,
       inr (subst (λ k. list_all (is_of Word) (take k text) ≡ true) size all, subst (λ k. slice_index text k ≡ 63) size last),
     )
 
+-- a word that begins as a name does
 pub name-spelled : (bytes : List ℕ) → 0 < name_length bytes → IsName (take (name_length bytes) bytes)
 unfolding name_length
 name-spelled bytes some =
@@ -234,10 +250,10 @@ longer-keeps P one other of_one of_other = chosen-keeps P (nat_lt one.length oth
 
 -- what the form that is found takes at the front is spelled as a token
 pub form_at-spelled : (may_be_signed : Bool) (bytes : List ℕ) → 0 < (form_at may_be_signed bytes).length →
-    IsSpelled may_be_signed (take (form_at may_be_signed bytes).length bytes)
+    IsSpelled may_be_signed (take (form_at may_be_signed bytes).length bytes) (form_at may_be_signed bytes).kind
 unfolding form_at name_form
 form_at-spelled may_be_signed bytes =
-    let P : Form → Type 0 = λ form. 0 < form.length → IsSpelled may_be_signed (take form.length bytes) in
+    let P : Form → Type 0 = λ form. 0 < form.length → IsSpelled may_be_signed (take form.length bytes) form.kind in
     let capital : P (capital_form bytes) = λ some. spelled_const (const-spelled bytes some) in
     let field : P (field_form bytes) = λ some. spelled_field (field-spelled bytes some) in
     let integer : P (integer_form may_be_signed bytes) = λ some. spelled_integer (integer-spelled may_be_signed bytes some) in
@@ -245,5 +261,5 @@ form_at-spelled may_be_signed bytes =
     let name : P (name_form bytes) = λ some. spelled_name (name-spelled bytes some) in
     longer-keeps P (word_form bytes) (other_form may_be_signed bytes)
     (longer-keeps P (name_form bytes) (longer (capital_form bytes) (field_form bytes)) name
-        (longer-keeps P (capital_form bytes) (field_form bytes) capital field))
+    (longer-keeps P (capital_form bytes) (field_form bytes) capital field))
     (longer-keeps P (integer_form may_be_signed bytes) (symbol_form bytes) integer symbol)

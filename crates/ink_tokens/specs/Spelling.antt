@@ -1,11 +1,13 @@
 -- How tokens are spelled, without a place.
-use Rattle.std.specs.Prelude.{◌≡◌, ℕ, ◌-◌, ◌<◌, ◌⊎◌, Bool, true, List, [], ◌∷◌, length, take, drop, slice_index}
+use Rattle.std.specs.Prelude.{◌≡◌, ℕ, ◌-◌, ◌⊎◌, Bool, true, List, length, take, drop, slice_index}
 use Rattle.std.specs.List.{list_all, list_any}
 use Rattle.std.specs.Char.{is_ascii_digit, is_ascii_hexdigit, is_ascii_uppercase}
+use Rattle.ink_base.specs.declared.token.TokenKind.{TokenKind}
+use Rattle.ink_base.specs.declared.token.TokenKind.TheVariants as kind
 use Rattle.ink_tokens.specs.declared.bytes.Class.{Class}
 use Rattle.ink_tokens.specs.declared.bytes.Class.TheVariants.{Word, Decimal, Hexadecimal}
 use Rattle.ink_tokens.specs.Bytes.{is_of, begins_name}
-use Rattle.ink_tokens.specs.Words.{is_pair, is_single}
+use Rattle.ink_tokens.specs.Words.{is_pair, is_single, word_kind}
 
 -- each byte is of the class
 abbrev pub AllOf : Class → List ℕ → Type 0
@@ -59,10 +61,10 @@ abbrev pub IsSymbol : List ℕ → Type 0
 IsSymbol text =
     ((length text ≡ 2) × (is_pair text ≡ true)) ⊎ ((length text ≡ 1) × (is_single (slice_index text 0) ≡ true))
 
--- a token that is no quote, and no brace of a ${
-pub data IsSpelled (may_be_signed : Bool) (text : List ℕ) : Type 0 where
-  spelled_name : IsName text → IsSpelled may_be_signed text
-  spelled_const : IsConst text → IsSpelled may_be_signed text
-  spelled_field : IsField text → IsSpelled may_be_signed text
-  spelled_integer : IsInteger may_be_signed text → IsSpelled may_be_signed text
-  spelled_symbol : IsSymbol text → IsSpelled may_be_signed text
+-- a token of a kind, quotes and the tokens of a text aside
+pub data IsSpelled (may_be_signed : Bool) (text : List ℕ) : TokenKind → Type 0 where
+  spelled_name : IsName text → IsSpelled may_be_signed text (word_kind text)
+  spelled_const : IsConst text → IsSpelled may_be_signed text kind.Const
+  spelled_field : IsField text → IsSpelled may_be_signed text kind.Field
+  spelled_integer : IsInteger may_be_signed text → IsSpelled may_be_signed text kind.Int
+  spelled_symbol : IsSymbol text → IsSpelled may_be_signed text kind.Symbol

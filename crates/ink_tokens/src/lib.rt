@@ -10,6 +10,7 @@ mod found;
 mod gap;
 mod integer;
 mod lexing;
+mod longest;
 mod nesting;
 mod number;
 mod part;
@@ -22,3 +23,4 @@ mod text_tests;
 mod words;
 
 pub use lexing::tokens;
+pub use longest::longest_form;
