@@ -1,0 +1,7 @@
+pub mod AnswerLemmas
+pub mod FormLemmas
+pub mod LexesLemmas
+pub mod NumberLemmas
+pub mod PartLemmas
+pub mod SoundLemmas
+pub mod SpellingLemmas

@@ -1,0 +1,12 @@
+pub mod Bytes
+pub mod Ending
+pub mod Fault
+pub mod Found
+pub mod Gap
+pub mod Integer
+pub mod Lexes
+pub mod Nest
+pub mod Part
+pub mod Scan
+pub mod Spelling
+pub mod Words

@@ -1,0 +1,26 @@
+//! The tokens of a source, by their kinds and the bytes that they take.
+//!
+//! What stands between two tokens is dropped, but for the line feeds that a token remembers. Texts give several tokens.
+//! Nothing here knows which tokens follow one another in a module.
+#![tactic(auto)]
+
+mod bytes;
+mod fault;
+mod found;
+mod gap;
+mod integer;
+mod lexing;
+mod longest;
+mod nesting;
+mod number;
+mod part;
+mod reading;
+mod scanner;
+#[cfg(test)]
+mod tests;
+#[cfg(test)]
+mod text_tests;
+mod words;
+
+pub use lexing::tokens;
+pub use longest::longest_form;

@@ -1,0 +1,63 @@
+//! What can stand at a place of a source, as plain data.
+
+use ink_base::TokenKind;
+
+/// Where a place is, by what is open there.
+#[derive(Clone, Copy)]
+pub(crate) enum Level {
+    /// In no text.
+    Outside,
+    /// In a text with this quote.
+    Text(u8),
+    /// Directly in a `${` of a text.
+    Embedded,
+    /// In a `{` inside a `${`.
+    Braces,
+}
+
+/// What stands before a place, blanks and comments aside.
+#[derive(Clone, Copy)]
+pub(crate) enum Before {
+    /// No token.
+    Start,
+    /// A line feed, behind the last token.
+    LineFeed,
+    /// A token behind which a `-` subtracts.
+    Operand,
+    /// Another token.
+    Other,
+}
+
+/// What a token does to the level.
+#[derive(Clone, Copy)]
+pub(crate) enum Change {
+    Stay,
+    Enter(Level),
+    Leave,
+}
+
+/// A form at a place, and how many bytes it takes. One that takes none doesn't stand there.
+#[derive(Clone, Copy)]
+pub(crate) struct Form {
+    pub(crate) kind: TokenKind,
+    pub(crate) length: usize,
+}
+
+/// A token at a place.
+#[derive(Clone, Copy)]
+pub(crate) struct Read {
+    pub(crate) kind: TokenKind,
+    pub(crate) length: usize,
+    pub(crate) change: Change,
+    pub(crate) before: Before,
+}
+
+/// What stands at a place.
+#[derive(Clone, Copy)]
+pub(crate) enum Found {
+    /// A blank or a comment of so many bytes, and whether it is a line feed.
+    Gap(usize, bool),
+    Token(Read),
+    /// Nothing that may stand there.
+    Nothing,
+}
