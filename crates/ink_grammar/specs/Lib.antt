@@ -1,0 +1,9 @@
+pub mod Shapes
+pub mod Grammar
+pub mod Tree
+pub mod Machine
+pub mod Reads
+pub mod Language
+pub mod Built
+pub mod Views
+pub mod Faults
