@@ -1,6 +1,7 @@
 -- Tests, and tests for all shapes of tokens.
 use Rattle.std.proofs.Common.{◌≡◌, ℕ, zero, suc, ◌==◌, Bool, true, false, not, ◌&&◌, ◌||◌, List, [], ◌∷◌, inl, inr, refl, sym, ap, ◌∙◌, Option, Some, None}
 use Rattle.std.specs.Prelude.{slice_get}
+use Rattle.std.proofs.lemmas.Bool.{eq-eqb}
 use Rattle.ink_grammar.specs.Shapes.{number}
 use Rattle.ink_grammar.specs.declared.token.Keyword.{Keyword}
 use Rattle.ink_grammar.specs.declared.token.Keyword.TheVariants as keyword
@@ -166,5 +167,4 @@ every_at f e x false = and_right (f x true) (f x false) (all_at (λ y. f y true 
 
 -- a number is itself
 pub equal_self : (n : ℕ) → n == n ≡ true
-equal_self zero = refl
-equal_self (suc n) = equal_self n
+equal_self n = eq-eqb n n refl
