@@ -1,8 +1,6 @@
 -- What the grammar has to meet, so that one token tells how to go on.
 use Rattle.std.proofs.Common.{◌≡◌, Bool, true, false, not, ◌&&◌, ◌||◌, List, [], ◌∷◌, refl}
-use Rattle.ink_grammar.specs.declared.token.Keyword.{Keyword}
 use Rattle.ink_grammar.specs.declared.token.Keyword.TheVariants as keyword
-use Rattle.ink_grammar.specs.declared.token.Mark.{Mark}
 use Rattle.ink_grammar.specs.declared.token.Mark.TheVariants as mark
 use Rattle.ink_grammar.specs.declared.token.Shape.{Shape}
 use Rattle.ink_grammar.specs.declared.token.Shape.TheVariants as shape

@@ -12,8 +12,7 @@ use Rattle.ink_grammar.specs.Reads.{Reads}
 use Rattle.ink_grammar.specs.Language.{Parses, Begins}
 use Rattle.ink_grammar.specs.Faults.{IsFault}
 use Rattle.ink_grammar.proofs.Runs.{start, Stands, Begun, Refused, derived, underived, stuck_end, finished, only_one, stands_start, stands_make, stands_token, stands_place, stands_part, stuck_token, stuck_place, stuck_part, stuck_rule}
-use Rattle.std.proofs.Common.{◌&&◌, true, false}
-use Rattle.ink_grammar.specs.declared.token.Shape.{Shape}
+use Rattle.std.proofs.Common.{◌&&◌, ◌⊎◌, inl, inr, true, false}
 use Rattle.ink_grammar.specs.declared.symbol.Wanted.{Wanted}
 use Rattle.ink_grammar.specs.declared.symbol.Line.{Line}
 use Rattle.ink_grammar.specs.declared.symbol.Part.{Part}
@@ -93,11 +92,15 @@ module _ (ts : List Token) (at : ℕ) (s r : List Symbol) (x : Symbol) (vs : Lis
   pub place_out : (w : Wanted) → x ≡ of.Place w → ((t : Token) → o ≡ Some t → is_place vs ≡ true → t.new_line ≡ false → is w t.shape ≡ true → ⊥) → at ≤ length ts → IsFault ts (Unexpected at)
   place_out w g n = out (stuck_place (take at ts) r vs w o n (now_at (of.Place w) g))
 
-  pub part_out : (l : Line) (n : Part) → x ≡ of.Part l n → stands_so l o ≡ false → at ≤ length ts → IsFault ts (Unexpected at)
+  part_out : (l : Line) (n : Part) → x ≡ of.Part l n → stands_so l o ≡ false → at ≤ length ts → IsFault ts (Unexpected at)
   part_out l n g p = out (stuck_part (take at ts) r vs l n o p (now_at (of.Part l n) g))
 
-  pub rule_out : (l : Line) (n : Part) → x ≡ of.Part l n → pick (rules n) o ≡ None → at ≤ length ts → IsFault ts (Unexpected at)
+  rule_out : (l : Line) (n : Part) → x ≡ of.Part l n → pick (rules n) o ≡ None → at ≤ length ts → IsFault ts (Unexpected at)
   rule_out l n g p = out (stuck_rule (take at ts) r vs l n o p (now_at (of.Part l n) g))
+
+  pub part_refused : (l : Line) (n : Part) → x ≡ of.Part l n → (stands_so l o ≡ false) ⊎ (pick (rules n) o ≡ None) → at ≤ length ts → IsFault ts (Unexpected at)
+  part_refused l n g (inl p) = part_out l n g p
+  part_refused l n g (inr p) = rule_out l n g p
 
 pub begun_in : (ts : List Token) (s : List Symbol) (vs : List Found) → s ≡ start → vs ≡ [] → Stands [] s vs (slice_get ts 0)
 begun_in ts s vs e v =

@@ -1,6 +1,5 @@
 -- What holds between the tokens that were read and the symbols that are still to come.
 use Rattle.std.proofs.Common.{◌≡◌, true, false, ◌&&◌, List, [], ◌∷◌, ◌++◌, Option, Some, None, refl, sym, ap, subst, ◌∙◌, append_assoc, append-nil}
-use Rattle.ink_grammar.specs.declared.token.Shape.{Shape}
 use Rattle.ink_grammar.specs.declared.symbol.Wanted.{Wanted}
 use Rattle.ink_grammar.specs.declared.token.Token.{Token}
 use Rattle.ink_grammar.specs.declared.symbol.Line.{Line}

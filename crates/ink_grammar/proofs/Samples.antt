@@ -1,8 +1,6 @@
 -- Each part is read from some tokens.
 use Rattle.std.proofs.Common.{◌≡◌, ℕ, zero, suc, Bool, true, false, not, ◌&&◌, List, [], ◌∷◌, ◌++◌, inl, inr, Option, Some, None, refl, sym, subst}
-use Rattle.ink_grammar.specs.declared.token.Keyword.{Keyword}
 use Rattle.ink_grammar.specs.declared.token.Keyword.TheVariants as keyword
-use Rattle.ink_grammar.specs.declared.token.Mark.{Mark}
 use Rattle.ink_grammar.specs.declared.token.Mark.TheVariants as mark
 use Rattle.ink_grammar.specs.declared.token.Shape.{Shape}
 use Rattle.ink_grammar.specs.declared.token.Shape.TheVariants as shape

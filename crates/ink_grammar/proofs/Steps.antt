@@ -1,7 +1,6 @@
 -- The step of a part: one token tells which rule it is.
 use Rattle.std.proofs.Common.{◌≡◌, Bool, true, false, not, ◌&&◌, ◌||◌, if◌then◌else◌, List, [], ◌∷◌, ◌++◌, inl, inr, Option, Some, None, refl, sym, ap, subst, ◌∙◌, append_assoc}
 use Rattle.ink_grammar.specs.declared.token.Shape.{Shape}
-use Rattle.ink_grammar.specs.declared.symbol.Wanted.{Wanted}
 use Rattle.ink_grammar.specs.declared.token.Token.{Token}
 use Rattle.ink_grammar.specs.declared.symbol.Line.{Line}
 use Rattle.ink_grammar.specs.declared.symbol.Line.TheVariants as line

@@ -4,8 +4,10 @@ ghost use Rattle.std.specs.Prelude.{◌≡◌, ◌≤◌, ◌∷◌, [], All, fa
 
 use crate::symbol::{Action, Wanted};
 use crate::token::Token;
-use crate::tree::{FiveChildren, FourChildren, OneChild, ThreeChildren, TwoChildren};
-use crate::tree::{Module, Node, is_place_form, is_place_word};
+use crate::tree::{
+    FiveChildren, FourChildren, Module, Node, OneChild, ThreeChildren, TwoChildren, is_place_form,
+    is_place_word,
+};
 use std::alloc::{AllocError, Global};
 
 /// A value that was read: its node, where it begins, and whether it is a place.
@@ -52,6 +54,7 @@ impl Builder {
         }
     }
 
+    /// The last value, or nothing where there is none.
     fn pop(&mut self) -> Value
         ensures tree { built.at (view.trees_in self.old) result.node ≡ spec.first (view.found self.old) }
         ensures start { result.start ≡ spec.start (view.found self.old) }
@@ -69,6 +72,7 @@ impl Builder {
         }
     }
 
+    /// Keeps a new node as the last value.
     fn push(&mut self, node: Node, start: u32, is_place: bool) -> Result<(), AllocError>
         ensures { OnOk result (view.found self.new ≡ record { tree = built.grow (view.trees_in self.old) node; start = start; is_place = is_place } ∷ view.found self.old) }
     {
@@ -98,6 +102,7 @@ impl Builder {
         Ok(())
     }
 
+    /// Keeps that there is nothing, which makes no node.
     fn push_nothing(&mut self) -> Result<(), AllocError>
         ensures { OnOk result (view.found self.new ≡ spec.value spec.Missing 0 ∷ view.found self.old) }
     {
@@ -105,6 +110,7 @@ impl Builder {
         Ok(())
     }
 
+    /// Drops the opening parenthesis below the last value.
     fn close(&mut self) -> Result<(), AllocError>
         ensures { OnOk result (view.found self.new ≡ spec.closed (view.found self.old)) }
     {
@@ -181,7 +187,14 @@ impl Builder {
         let third = self.pop();
         let second = self.pop();
         let first = self.pop();
-        let node = Node::Four(form, first.start, first.node, second.node, third.node, fourth.node);
+        let node = Node::Four(
+            form,
+            first.start,
+            first.node,
+            second.node,
+            third.node,
+            fourth.node,
+        );
         self.push(node, first.start, false)
     }
 
@@ -193,7 +206,15 @@ impl Builder {
         let third = self.pop();
         let second = self.pop();
         let first = self.pop();
-        let node = Node::Five(form, first.start, first.node, second.node, third.node, fourth.node, fifth.node);
+        let node = Node::Five(
+            form,
+            first.start,
+            first.node,
+            second.node,
+            third.node,
+            fourth.node,
+            fifth.node,
+        );
         self.push(node, first.start, false)
     }
 }

@@ -10,13 +10,24 @@ use crate::token::{Shape, same};
 pub fn begins_primary(shape: Shape) -> bool
     ensures { result ≡ spec.begins_primary shape }
 {
-    is(Wanted::Atom, shape) || same(shape::QUOTE, shape) || same(shape::LEFT_PAREN, shape) || same(shape::LEFT_BRACKET, shape) || same(shape::IF, shape) || same(shape::WHILE, shape) || same(shape::LOOP, shape) || same(shape::MATCH, shape)
+    is(Wanted::Atom, shape)
+        || same(shape::QUOTE, shape)
+        || same(shape::LEFT_PAREN, shape)
+        || same(shape::LEFT_BRACKET, shape)
+        || same(shape::IF, shape)
+        || same(shape::WHILE, shape)
+        || same(shape::LOOP, shape)
+        || same(shape::MATCH, shape)
 }
 
 pub fn begins_unnamed_operand(shape: Shape) -> bool
     ensures { result ≡ spec.begins_unnamed_operand shape }
 {
-    is(Wanted::BorrowWord, shape) || same(shape::TRY, shape) || same(shape::RECOVER, shape) || same(shape::CONSTANT, shape) || begins_primary(shape)
+    is(Wanted::BorrowWord, shape)
+        || same(shape::TRY, shape)
+        || same(shape::RECOVER, shape)
+        || same(shape::CONSTANT, shape)
+        || begins_primary(shape)
 }
 
 pub fn begins_jump(shape: Shape) -> bool
@@ -58,5 +69,10 @@ pub fn begins_full_type(shape: Shape) -> bool
 pub fn begins_alternative(shape: Shape) -> bool
     ensures { result ≡ spec.begins_alternative shape }
 {
-    is(Wanted::PatternAtom, shape) || same(shape::QUOTE, shape) || same(shape::MUT, shape) || same(shape::CONSTANT, shape) || same(shape::LEFT_PAREN, shape) || same(shape::LEFT_BRACE, shape)
+    is(Wanted::PatternAtom, shape)
+        || same(shape::QUOTE, shape)
+        || same(shape::MUT, shape)
+        || same(shape::CONSTANT, shape)
+        || same(shape::LEFT_PAREN, shape)
+        || same(shape::LEFT_BRACE, shape)
 }

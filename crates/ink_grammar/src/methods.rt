@@ -9,20 +9,11 @@ use crate::shape;
 use crate::symbol::{MethodPart, Symbol};
 use crate::token::{Shape, same};
 
-const OPTIONAL_PUB: &[&[Symbol]] = &[
-    &[token::PUB, action::MORE],
-    &[],
-];
+const OPTIONAL_PUB: &[&[Symbol]] = &[&[token::PUB, action::MORE], &[]];
 
-const OPTIONAL_ASYNC: &[&[Symbol]] = &[
-    &[token::ASYNC, action::MORE],
-    &[],
-];
+const OPTIONAL_ASYNC: &[&[Symbol]] = &[&[token::ASYNC, action::MORE], &[]];
 
-const OPTIONAL_MUT: &[&[Symbol]] = &[
-    &[token::MUT, action::MORE],
-    &[],
-];
+const OPTIONAL_MUT: &[&[Symbol]] = &[&[token::MUT, action::MORE], &[]];
 
 const METHOD_KIND: &[&[Symbol]] = &[
     &[token::MUT, action::MORE],
@@ -37,14 +28,22 @@ const TRAIT_METHOD_KIND: &[&[Symbol]] = &[
     &[],
 ];
 
-const METHODS: &[&[Symbol]] = &[
-    &[part::METHOD, action::MORE, part::METHODS],
-    &[],
-];
+const METHODS: &[&[Symbol]] = &[&[part::METHOD, action::MORE, part::METHODS], &[]];
 
-const METHOD: &[&[Symbol]] = &[
-    &[token::FN, action::EMPTY, part::OPTIONAL_PUB, part::OPTIONAL_ASYNC, part::METHOD_KIND, token::NAME, part::TYPE_PARAMETERS, part::PARAMETERS, part::METHOD_RESULT, action::SIGNATURE, part::BLOCK, action::METHOD],
-];
+const METHOD: &[&[Symbol]] = &[&[
+    token::FN,
+    action::EMPTY,
+    part::OPTIONAL_PUB,
+    part::OPTIONAL_ASYNC,
+    part::METHOD_KIND,
+    token::NAME,
+    part::TYPE_PARAMETERS,
+    part::PARAMETERS,
+    part::METHOD_RESULT,
+    action::SIGNATURE,
+    part::BLOCK,
+    action::METHOD,
+]];
 
 const PARAMETERS: &[&[Symbol]] = &[
     &[token::LEFT_PAREN, action::EMPTY, part::PARAMETERS_MORE],
@@ -61,14 +60,14 @@ const PARAMETERS_REST: &[&[Symbol]] = &[
     &[token::COMMA, part::PARAMETERS_MORE],
 ];
 
-const PARAMETER: &[&[Symbol]] = &[
-    &[token::NAME, token::COLON, part::FULL_TYPE, action::PARAMETER],
-];
+const PARAMETER: &[&[Symbol]] = &[&[
+    token::NAME,
+    token::COLON,
+    part::FULL_TYPE,
+    action::PARAMETER,
+]];
 
-const METHOD_RESULT: &[&[Symbol]] = &[
-    &[token::ARROW, part::FULL_TYPE],
-    &[action::NOTHING],
-];
+const METHOD_RESULT: &[&[Symbol]] = &[&[token::ARROW, part::FULL_TYPE], &[action::NOTHING]];
 
 /// Each way to write the part.
 pub fn rules(part: MethodPart) -> &'static [&'static [Symbol]]
@@ -118,7 +117,9 @@ pub fn begins(part: MethodPart, shape: Shape, _new_line: bool) -> bool
         MethodPart::OptionalPub => same(shape::PUB, shape),
         MethodPart::OptionalAsync => same(shape::ASYNC, shape),
         MethodPart::OptionalMut => same(shape::MUT, shape),
-        MethodPart::MethodKind => same(shape::MUT, shape) || same(shape::MOVE, shape) || same(shape::STATIC, shape),
+        MethodPart::MethodKind => same(shape::MUT, shape)
+            || same(shape::MOVE, shape)
+            || same(shape::STATIC, shape),
         MethodPart::TraitMethodKind => same(shape::MUT, shape) || same(shape::MOVE, shape),
         MethodPart::Methods => same(shape::FN, shape),
         MethodPart::Method => same(shape::FN, shape),

@@ -9,18 +9,25 @@ use crate::shape;
 use crate::symbol::{ModulePart, Symbol};
 use crate::token::{Shape, same};
 
-const MODULE: &[&[Symbol]] = &[
-    &[action::EMPTY, part::IMPORTS, action::EMPTY, part::DECLARATIONS, action::MODULE],
-];
+const MODULE: &[&[Symbol]] = &[&[
+    action::EMPTY,
+    part::IMPORTS,
+    action::EMPTY,
+    part::DECLARATIONS,
+    action::MODULE,
+]];
 
-const IMPORTS: &[&[Symbol]] = &[
-    &[part::IMPORT, action::MORE, part::IMPORTS],
-    &[],
-];
+const IMPORTS: &[&[Symbol]] = &[&[part::IMPORT, action::MORE, part::IMPORTS], &[]];
 
-const IMPORT: &[&[Symbol]] = &[
-    &[token::IMPORT, action::EMPTY, token::NAME, action::MORE, part::IMPORT_PATH, part::IMPORT_NAMES, action::IMPORT],
-];
+const IMPORT: &[&[Symbol]] = &[&[
+    token::IMPORT,
+    action::EMPTY,
+    token::NAME,
+    action::MORE,
+    part::IMPORT_PATH,
+    part::IMPORT_NAMES,
+    action::IMPORT,
+]];
 
 const IMPORT_PATH: &[&[Symbol]] = &[
     &[token::DOT, token::NAME, action::MORE, part::IMPORT_PATH],
@@ -28,14 +35,17 @@ const IMPORT_PATH: &[&[Symbol]] = &[
 ];
 
 const IMPORT_NAMES: &[&[Symbol]] = &[
-    &[token::LEFT_PAREN, action::EMPTY, part::IMPORT_NAME, action::MORE, part::IMPORT_NAMES_REST],
+    &[
+        token::LEFT_PAREN,
+        action::EMPTY,
+        part::IMPORT_NAME,
+        action::MORE,
+        part::IMPORT_NAMES_REST,
+    ],
     &[action::NOTHING],
 ];
 
-const IMPORT_NAME: &[&[Symbol]] = &[
-    &[token::NAME],
-    &[token::CONSTANT],
-];
+const IMPORT_NAME: &[&[Symbol]] = &[&[token::NAME], &[token::CONSTANT]];
 
 const IMPORT_NAMES_REST: &[&[Symbol]] = &[
     &[token::RIGHT_PAREN],
@@ -47,27 +57,63 @@ const IMPORT_NAMES_MORE: &[&[Symbol]] = &[
     &[part::IMPORT_NAME, action::MORE, part::IMPORT_NAMES_REST],
 ];
 
-const DECLARATIONS: &[&[Symbol]] = &[
-    &[part::DECLARATION, action::MORE, part::DECLARATIONS],
-    &[],
-];
+const DECLARATIONS: &[&[Symbol]] = &[&[part::DECLARATION, action::MORE, part::DECLARATIONS], &[]];
 
 const DECLARATION: &[&[Symbol]] = &[
-    &[token::TYPE, action::EMPTY, part::OPTIONAL_PUB, part::TYPE_FORM],
-    &[token::TRAIT, action::EMPTY, part::OPTIONAL_PUB, token::CONSTANT, token::LEFT_BRACE, action::EMPTY, part::TRAIT_METHODS, token::RIGHT_BRACE, action::TRAIT],
-    &[token::IMPL, token::CONSTANT, part::IMPLEMENTED_TRAIT, token::LEFT_BRACE, action::EMPTY, part::METHODS, token::RIGHT_BRACE, action::IMPLEMENTATION],
+    &[
+        token::TYPE,
+        action::EMPTY,
+        part::OPTIONAL_PUB,
+        part::TYPE_FORM,
+    ],
+    &[
+        token::TRAIT,
+        action::EMPTY,
+        part::OPTIONAL_PUB,
+        token::CONSTANT,
+        token::LEFT_BRACE,
+        action::EMPTY,
+        part::TRAIT_METHODS,
+        token::RIGHT_BRACE,
+        action::TRAIT,
+    ],
+    &[
+        token::IMPL,
+        token::CONSTANT,
+        part::IMPLEMENTED_TRAIT,
+        token::LEFT_BRACE,
+        action::EMPTY,
+        part::METHODS,
+        token::RIGHT_BRACE,
+        action::IMPLEMENTATION,
+    ],
     &[part::METHOD],
 ];
 
 const TYPE_FORM: &[&[Symbol]] = &[
-    &[token::ENUM, token::CONSTANT, part::TYPE_PARAMETERS, token::LEFT_BRACE, action::EMPTY, part::ENUM_MEMBERS, token::RIGHT_BRACE, action::ENUM_DECLARATION],
+    &[
+        token::ENUM,
+        token::CONSTANT,
+        part::TYPE_PARAMETERS,
+        token::LEFT_BRACE,
+        action::EMPTY,
+        part::ENUM_MEMBERS,
+        token::RIGHT_BRACE,
+        action::ENUM_DECLARATION,
+    ],
     &[token::ASYNC, action::MORE, part::OBJECT_FORM],
     &[part::OBJECT_FORM],
 ];
 
-const OBJECT_FORM: &[&[Symbol]] = &[
-    &[token::CONSTANT, part::TYPE_PARAMETERS, token::LEFT_BRACE, action::EMPTY, part::OBJECT_MEMBERS, token::RIGHT_BRACE, action::TYPE_DECLARATION],
-];
+const OBJECT_FORM: &[&[Symbol]] = &[&[
+    token::CONSTANT,
+    part::TYPE_PARAMETERS,
+    token::LEFT_BRACE,
+    action::EMPTY,
+    part::OBJECT_MEMBERS,
+    token::RIGHT_BRACE,
+    action::TYPE_DECLARATION,
+]];
 
 const OBJECT_MEMBERS: &[&[Symbol]] = &[
     &[part::FIELD_DECLARATION, action::MORE, part::OBJECT_MEMBERS],
@@ -81,27 +127,41 @@ const ENUM_MEMBERS: &[&[Symbol]] = &[
     &[],
 ];
 
-const FIELD_DECLARATION: &[&[Symbol]] = &[
-    &[token::LET, action::EMPTY, part::OPTIONAL_PUB, part::OPTIONAL_MUT, token::FIELD, token::COLON, part::FULL_TYPE, action::FIELD_DECLARATION],
-];
+const FIELD_DECLARATION: &[&[Symbol]] = &[&[
+    token::LET,
+    action::EMPTY,
+    part::OPTIONAL_PUB,
+    part::OPTIONAL_MUT,
+    token::FIELD,
+    token::COLON,
+    part::FULL_TYPE,
+    action::FIELD_DECLARATION,
+]];
 
-const CONSTRUCTOR: &[&[Symbol]] = &[
-    &[token::CASE, token::CONSTANT, part::CONSTRUCTOR_TYPES, action::CONSTRUCTOR],
-];
+const CONSTRUCTOR: &[&[Symbol]] = &[&[
+    token::CASE,
+    token::CONSTANT,
+    part::CONSTRUCTOR_TYPES,
+    action::CONSTRUCTOR,
+]];
 
 const TRAIT_METHODS: &[&[Symbol]] = &[
     &[part::TRAIT_METHOD, action::MORE, part::TRAIT_METHODS],
     &[],
 ];
 
-const TRAIT_METHOD: &[&[Symbol]] = &[
-    &[token::FN, action::EMPTY, part::OPTIONAL_PUB, part::TRAIT_METHOD_KIND, token::NAME, part::PARAMETERS, part::METHOD_RESULT, action::TRAIT_METHOD],
-];
+const TRAIT_METHOD: &[&[Symbol]] = &[&[
+    token::FN,
+    action::EMPTY,
+    part::OPTIONAL_PUB,
+    part::TRAIT_METHOD_KIND,
+    token::NAME,
+    part::PARAMETERS,
+    part::METHOD_RESULT,
+    action::TRAIT_METHOD,
+]];
 
-const IMPLEMENTED_TRAIT: &[&[Symbol]] = &[
-    &[token::FOR, token::CONSTANT],
-    &[action::NOTHING],
-];
+const IMPLEMENTED_TRAIT: &[&[Symbol]] = &[&[token::FOR, token::CONSTANT], &[action::NOTHING]];
 
 /// Each way to write the part.
 pub fn rules(part: ModulePart) -> &'static [&'static [Symbol]]
@@ -162,17 +222,31 @@ pub fn begins(part: ModulePart, shape: Shape, _new_line: bool) -> bool
     ensures { result ≡ spec.module_begins part shape _new_line }
 {
     match part {
-        ModulePart::Module => same(shape::IMPORT, shape) || same(shape::TYPE, shape) || same(shape::TRAIT, shape) || same(shape::IMPL, shape) || same(shape::FN, shape),
+        ModulePart::Module => same(shape::IMPORT, shape)
+            || same(shape::TYPE, shape)
+            || same(shape::TRAIT, shape)
+            || same(shape::IMPL, shape)
+            || same(shape::FN, shape),
         ModulePart::Imports => same(shape::IMPORT, shape),
         ModulePart::Import => same(shape::IMPORT, shape),
         ModulePart::ImportPath => same(shape::DOT, shape),
         ModulePart::ImportNames => same(shape::LEFT_PAREN, shape),
         ModulePart::ImportName => same(shape::NAME, shape) || same(shape::CONSTANT, shape),
         ModulePart::ImportNamesRest => same(shape::RIGHT_PAREN, shape) || same(shape::COMMA, shape),
-        ModulePart::ImportNamesMore => same(shape::RIGHT_PAREN, shape) || same(shape::NAME, shape) || same(shape::CONSTANT, shape),
-        ModulePart::Declarations => same(shape::TYPE, shape) || same(shape::TRAIT, shape) || same(shape::IMPL, shape) || same(shape::FN, shape),
-        ModulePart::Declaration => same(shape::TYPE, shape) || same(shape::TRAIT, shape) || same(shape::IMPL, shape) || same(shape::FN, shape),
-        ModulePart::TypeForm => same(shape::ENUM, shape) || same(shape::ASYNC, shape) || same(shape::CONSTANT, shape),
+        ModulePart::ImportNamesMore => same(shape::RIGHT_PAREN, shape)
+            || same(shape::NAME, shape)
+            || same(shape::CONSTANT, shape),
+        ModulePart::Declarations => same(shape::TYPE, shape)
+            || same(shape::TRAIT, shape)
+            || same(shape::IMPL, shape)
+            || same(shape::FN, shape),
+        ModulePart::Declaration => same(shape::TYPE, shape)
+            || same(shape::TRAIT, shape)
+            || same(shape::IMPL, shape)
+            || same(shape::FN, shape),
+        ModulePart::TypeForm => same(shape::ENUM, shape)
+            || same(shape::ASYNC, shape)
+            || same(shape::CONSTANT, shape),
         ModulePart::ObjectForm => same(shape::CONSTANT, shape),
         ModulePart::ObjectMembers => same(shape::LET, shape) || same(shape::FN, shape),
         ModulePart::EnumMembers => same(shape::CASE, shape) || same(shape::FN, shape),

@@ -4,7 +4,10 @@
 ghost use Rattle.std.specs.Prelude.{◌≡◌, map};
 ghost use Rattle.ink_grammar.specs.Grammar as spec;
 
-use crate::first::{begins_expression, begins_operand, begins_primary, begins_unnamed_expression, begins_unnamed_operand};
+use crate::first::{
+    begins_expression, begins_operand, begins_primary, begins_unnamed_expression,
+    begins_unnamed_operand,
+};
 use crate::names::{action, part, token};
 use crate::shape;
 use crate::symbol::{OperandPart, Symbol, Wanted, is};
@@ -29,14 +32,16 @@ const RECOVER_REST: &[&[Symbol]] = &[
 ];
 
 const NAME_REST: &[&[Symbol]] = &[
-    &[token::SAME_LINE_LEFT_PAREN, action::EMPTY, part::ARGUMENTS, action::CALL],
+    &[
+        token::SAME_LINE_LEFT_PAREN,
+        action::EMPTY,
+        part::ARGUMENTS,
+        action::CALL,
+    ],
     &[],
 ];
 
-const LINKS: &[&[Symbol]] = &[
-    &[token::DOT, part::LINK, part::LINKS],
-    &[],
-];
+const LINKS: &[&[Symbol]] = &[&[token::DOT, part::LINK, part::LINKS], &[]];
 
 const LINK: &[&[Symbol]] = &[
     &[token::LINK_NAME, part::LINK_REST],
@@ -44,41 +49,99 @@ const LINK: &[&[Symbol]] = &[
 ];
 
 const LINK_REST: &[&[Symbol]] = &[
-    &[token::SAME_LINE_LEFT_PAREN, action::EMPTY, part::ARGUMENTS, action::MEMBER_CALL],
+    &[
+        token::SAME_LINE_LEFT_PAREN,
+        action::EMPTY,
+        part::ARGUMENTS,
+        action::MEMBER_CALL,
+    ],
     &[action::MEMBER],
 ];
 
 const CONSTANT_REST: &[&[Symbol]] = &[
-    &[token::SAME_LINE_LEFT_PAREN, action::EMPTY, part::CONSTRUCTOR_ARGUMENTS, action::CONSTRUCT, part::LINKS],
+    &[
+        token::SAME_LINE_LEFT_PAREN,
+        action::EMPTY,
+        part::CONSTRUCTOR_ARGUMENTS,
+        action::CONSTRUCT,
+        part::LINKS,
+    ],
     &[token::DOT, part::AFTER_CONSTANT],
     &[],
 ];
 
 const AFTER_CONSTANT: &[&[Symbol]] = &[
-    &[token::CONSTANT, action::QUALIFIED, part::QUALIFIED_REST, part::LINKS],
+    &[
+        token::CONSTANT,
+        action::QUALIFIED,
+        part::QUALIFIED_REST,
+        part::LINKS,
+    ],
     &[part::LINK, part::LINKS],
 ];
 
 const QUALIFIED_REST: &[&[Symbol]] = &[
-    &[token::SAME_LINE_LEFT_PAREN, action::EMPTY, part::CONSTRUCTOR_ARGUMENTS, action::CONSTRUCT],
+    &[
+        token::SAME_LINE_LEFT_PAREN,
+        action::EMPTY,
+        part::CONSTRUCTOR_ARGUMENTS,
+        action::CONSTRUCT,
+    ],
     &[],
 ];
 
 const PRIMARY: &[&[Symbol]] = &[
     &[token::ATOM],
-    &[token::KEPT_QUOTE, action::EMPTY, part::TEXT_REST, action::TEXT],
-    &[token::KEPT_LEFT_PAREN, part::EXPRESSION, part::PARENTHESIS_REST],
-    &[token::KEPT_LEFT_BRACKET, action::EMPTY, part::ITEMS, action::ARRAY],
+    &[
+        token::KEPT_QUOTE,
+        action::EMPTY,
+        part::TEXT_REST,
+        action::TEXT,
+    ],
+    &[
+        token::KEPT_LEFT_PAREN,
+        part::EXPRESSION,
+        part::PARENTHESIS_REST,
+    ],
+    &[
+        token::KEPT_LEFT_BRACKET,
+        action::EMPTY,
+        part::ITEMS,
+        action::ARRAY,
+    ],
     &[part::CONDITIONAL],
-    &[token::WHILE, part::CHAIN, action::STATEMENT, part::BLOCK, action::WHILE],
+    &[
+        token::WHILE,
+        part::CHAIN,
+        action::STATEMENT,
+        part::BLOCK,
+        action::WHILE,
+    ],
     &[token::LOOP, part::BLOCK, action::LOOP],
-    &[token::MATCH, part::CHAIN, action::STATEMENT, token::LEFT_BRACE, action::EMPTY, part::ARM, action::MORE, part::ARMS, token::RIGHT_BRACE, action::MATCH],
+    &[
+        token::MATCH,
+        part::CHAIN,
+        action::STATEMENT,
+        token::LEFT_BRACE,
+        action::EMPTY,
+        part::ARM,
+        action::MORE,
+        part::ARMS,
+        token::RIGHT_BRACE,
+        action::MATCH,
+    ],
 ];
 
 const TEXT_REST: &[&[Symbol]] = &[
     &[token::QUOTE],
     &[token::TEXT_PART, action::MORE, part::TEXT_REST],
-    &[token::OPENING, part::EXPRESSION, token::CLOSING, action::MORE, part::TEXT_REST],
+    &[
+        token::OPENING,
+        part::EXPRESSION,
+        token::CLOSING,
+        action::MORE,
+        part::TEXT_REST,
+    ],
 ];
 
 const PARENTHESIS_REST: &[&[Symbol]] = &[
@@ -88,7 +151,12 @@ const PARENTHESIS_REST: &[&[Symbol]] = &[
 
 const TUPLE_REST: &[&[Symbol]] = &[
     &[token::RIGHT_PAREN, action::PAIR],
-    &[token::COMMA, part::EXPRESSION, token::RIGHT_PAREN, action::TRIPLE],
+    &[
+        token::COMMA,
+        part::EXPRESSION,
+        token::RIGHT_PAREN,
+        action::TRIPLE,
+    ],
 ];
 
 const ITEMS: &[&[Symbol]] = &[
@@ -96,20 +164,14 @@ const ITEMS: &[&[Symbol]] = &[
     &[part::EXPRESSION, action::MORE, part::ITEMS_REST],
 ];
 
-const ITEMS_REST: &[&[Symbol]] = &[
-    &[token::RIGHT_BRACKET],
-    &[token::COMMA, part::ITEMS],
-];
+const ITEMS_REST: &[&[Symbol]] = &[&[token::RIGHT_BRACKET], &[token::COMMA, part::ITEMS]];
 
 const ARGUMENTS: &[&[Symbol]] = &[
     &[token::RIGHT_PAREN],
     &[part::EXPRESSION, action::MORE, part::ARGUMENTS_REST],
 ];
 
-const ARGUMENTS_REST: &[&[Symbol]] = &[
-    &[token::RIGHT_PAREN],
-    &[token::COMMA, part::ARGUMENTS],
-];
+const ARGUMENTS_REST: &[&[Symbol]] = &[&[token::RIGHT_PAREN], &[token::COMMA, part::ARGUMENTS]];
 
 const CONSTRUCTOR_ARGUMENTS: &[&[Symbol]] = &[
     &[token::RIGHT_PAREN],
@@ -118,18 +180,34 @@ const CONSTRUCTOR_ARGUMENTS: &[&[Symbol]] = &[
 ];
 
 const NAMED_OR_NOT: &[&[Symbol]] = &[
-    &[token::COLON, part::EXPRESSION, action::NAMED, action::MORE, part::NAMED_REST],
-    &[part::NAME_REST, part::LINKS, part::AFTER_OPERAND, action::MORE, part::ARGUMENTS_REST],
+    &[
+        token::COLON,
+        part::EXPRESSION,
+        action::NAMED,
+        action::MORE,
+        part::NAMED_REST,
+    ],
+    &[
+        part::NAME_REST,
+        part::LINKS,
+        part::AFTER_OPERAND,
+        action::MORE,
+        part::ARGUMENTS_REST,
+    ],
 ];
 
-const NAMED_REST: &[&[Symbol]] = &[
-    &[token::RIGHT_PAREN],
-    &[token::COMMA, part::NAMED_MORE],
-];
+const NAMED_REST: &[&[Symbol]] = &[&[token::RIGHT_PAREN], &[token::COMMA, part::NAMED_MORE]];
 
 const NAMED_MORE: &[&[Symbol]] = &[
     &[token::RIGHT_PAREN],
-    &[token::NAME, token::COLON, part::EXPRESSION, action::NAMED, action::MORE, part::NAMED_REST],
+    &[
+        token::NAME,
+        token::COLON,
+        part::EXPRESSION,
+        action::NAMED,
+        action::MORE,
+        part::NAMED_REST,
+    ],
 ];
 
 /// Each way to write the part.
@@ -204,19 +282,34 @@ pub fn begins(part: OperandPart, shape: Shape, new_line: bool) -> bool
         OperandPart::Links => same(shape::DOT, shape),
         OperandPart::Link => is(Wanted::LinkName, shape) || same(shape::INTEGER, shape),
         OperandPart::LinkRest => !new_line && same(shape::LEFT_PAREN, shape),
-        OperandPart::ConstantRest => same(shape::DOT, shape) || (!new_line && same(shape::LEFT_PAREN, shape)),
-        OperandPart::AfterConstant => same(shape::CONSTANT, shape) || is(Wanted::LinkName, shape) || same(shape::INTEGER, shape),
+        OperandPart::ConstantRest => same(shape::DOT, shape)
+            || (!new_line && same(shape::LEFT_PAREN, shape)),
+        OperandPart::AfterConstant => same(shape::CONSTANT, shape)
+            || is(Wanted::LinkName, shape)
+            || same(shape::INTEGER, shape),
         OperandPart::QualifiedRest => !new_line && same(shape::LEFT_PAREN, shape),
         OperandPart::Primary => begins_primary(shape),
-        OperandPart::TextRest => same(shape::QUOTE, shape) || same(shape::TEXT_PART, shape) || same(shape::OPENING, shape),
-        OperandPart::ParenthesisRest => same(shape::RIGHT_PAREN, shape) || same(shape::COMMA, shape),
+        OperandPart::TextRest => same(shape::QUOTE, shape)
+            || same(shape::TEXT_PART, shape)
+            || same(shape::OPENING, shape),
+        OperandPart::ParenthesisRest => same(shape::RIGHT_PAREN, shape)
+            || same(shape::COMMA, shape),
         OperandPart::TupleRest => same(shape::RIGHT_PAREN, shape) || same(shape::COMMA, shape),
         OperandPart::Items => same(shape::RIGHT_BRACKET, shape) || begins_expression(shape),
         OperandPart::ItemsRest => same(shape::RIGHT_BRACKET, shape) || same(shape::COMMA, shape),
         OperandPart::Arguments => same(shape::RIGHT_PAREN, shape) || begins_expression(shape),
         OperandPart::ArgumentsRest => same(shape::RIGHT_PAREN, shape) || same(shape::COMMA, shape),
-        OperandPart::ConstructorArguments => same(shape::RIGHT_PAREN, shape) || same(shape::NAME, shape) || begins_unnamed_expression(shape),
-        OperandPart::NamedOrNot => same(shape::COLON, shape) || same(shape::DOT, shape) || same(shape::RIGHT_PAREN, shape) || same(shape::COMMA, shape) || (!new_line && (same(shape::LEFT_PAREN, shape) || is(Wanted::Setter, shape) || is(Wanted::Operator, shape))),
+        OperandPart::ConstructorArguments => same(shape::RIGHT_PAREN, shape)
+            || same(shape::NAME, shape)
+            || begins_unnamed_expression(shape),
+        OperandPart::NamedOrNot => same(shape::COLON, shape)
+            || same(shape::DOT, shape)
+            || same(shape::RIGHT_PAREN, shape)
+            || same(shape::COMMA, shape)
+            || (!new_line
+                && (same(shape::LEFT_PAREN, shape)
+                    || is(Wanted::Setter, shape)
+                    || is(Wanted::Operator, shape))),
         OperandPart::NamedRest => same(shape::RIGHT_PAREN, shape) || same(shape::COMMA, shape),
         OperandPart::NamedMore => same(shape::RIGHT_PAREN, shape) || same(shape::NAME, shape),
     }

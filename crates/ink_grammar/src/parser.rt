@@ -1,7 +1,7 @@
 //! The parser. What is still to come it keeps on a stack of symbols, so that a module nests as deep as memory allows:
 //! each turn takes a token, or puts a production in the place of its part, or makes a node.
 
-ghost use Rattle.std.specs.Prelude.{◌≡◌, ◌&&◌, true, false, IfSome, IfNone, IfOk, IfErr, Some, None};
+ghost use Rattle.std.specs.Prelude.{◌≡◌, ◌&&◌, ◌⊎◌, true, false, IfSome, IfNone, IfOk, IfErr, Some, None};
 ghost use Rattle.ink_grammar.specs.Grammar as spec;
 ghost use Rattle.ink_grammar.specs.Shapes as shapes;
 ghost use Rattle.ink_grammar.specs.Machine as machine;
@@ -10,6 +10,7 @@ ghost use Rattle.ink_grammar.specs.Language.{Parses};
 ghost use Rattle.ink_grammar.specs.Faults.{IsFault};
 ghost use Rattle.ink_grammar.specs.Views as view;
 ghost use Rattle.ink_grammar.specs.declared.token.Token.{Token};
+ghost use Rattle.ink_grammar.specs.declared.parser.ParseError.TheVariants.{Unexpected};
 
 use crate::builder::Builder;
 use crate::grammar::{begins, may_be_empty, rules};
@@ -40,7 +41,7 @@ impl From<AllocError> for ParseError {
 }
 
 /// Whether a rule may go on with this token, where none is the end.
-pub fn fits(rule: &[Symbol], token: Option<Token>) -> bool
+fn fits(rule: &[Symbol], token: Option<Token>) -> bool
     ensures { result ≡ machine.fits rule.now token }
 {
     match rule {
@@ -68,8 +69,8 @@ pub fn fits(rule: &[Symbol], token: Option<Token>) -> bool
     }
 }
 
-/// The rule by which the part goes on with this token.
-pub fn choose(part: Part, token: Option<Token>) -> Option<&'static [Symbol]>
+/// The first production of the part that may go on with this token.
+fn choose(part: Part, token: Option<Token>) -> Option<&'static [Symbol]>
     ensures some { IfSome result (λ rule. machine.pick (spec.rules part) token ≡ Some rule.now) }
     ensures none { IfNone result (machine.pick (spec.rules part) token ≡ None) }
 {
@@ -82,7 +83,7 @@ pub fn choose(part: Part, token: Option<Token>) -> Option<&'static [Symbol]>
 }
 
 /// Whether the token, or the end, stands so.
-pub fn stands_so(line: Line, token: Option<Token>) -> bool
+fn stands_so(line: Line, token: Option<Token>) -> bool
     ensures { result ≡ machine.stands_so line token }
 {
     match line {
@@ -103,29 +104,49 @@ fn token_at(tokens: &[Token], at: usize) -> Option<Token>
     }
 }
 
-/// The token, if it is one of this kind that stands so.
-fn takes(line: Line, wanted: Wanted, token: Option<Token>) -> Option<Token>
-    ensures some { IfSome result (λ t. (token ≡ Some t) × (shapes.stands line t.new_line ≡ true) × (shapes.is wanted t.shape ≡ true)) }
-    ensures none { IfNone result ((t : Token) → token ≡ Some t → shapes.stands line t.new_line && shapes.is wanted t.shape ≡ false) }
+/// The token, if it is one that is wanted and stands so.
+fn taken(line: Line, wanted: Wanted, token: Option<Token>, at: usize) -> Result<Token, ParseError>
+    ensures taken { IfOk result (λ t. (token ≡ Some t) × (shapes.stands line t.new_line ≡ true) × (shapes.is wanted t.shape ≡ true)) }
+    ensures refused { IfErr result (λ e. (e ≡ Unexpected at) × ((t : Token) → token ≡ Some t → shapes.stands line t.new_line && shapes.is wanted t.shape ≡ false)) }
 {
-    let token = token?;
-    if stands(line, token.new_line) && is(wanted, token.shape) {
-        Some(token)
-    } else {
-        None
+    match token {
+        Some(token) if stands(line, token.new_line) && is(wanted, token.shape) => Ok(token),
+        _ => Err(ParseError::Unexpected(at)),
     }
 }
 
-/// The token, if it is one of this kind that stands directly after a place.
-fn takes_after(is_place: bool, wanted: Wanted, token: Option<Token>) -> Option<Token>
-    ensures some { IfSome result (λ t. (token ≡ Some t) × (is_place ≡ true) × (t.new_line ≡ false) × (shapes.is wanted t.shape ≡ true)) }
-    ensures none { IfNone result ((t : Token) → token ≡ Some t → is_place ≡ true → t.new_line ≡ false → shapes.is wanted t.shape ≡ true → ⊥) }
+/// The token, if it is one that is wanted and stands directly after a place.
+fn taken_after(
+    is_place: bool,
+    wanted: Wanted,
+    token: Option<Token>,
+    at: usize,
+) -> Result<Token, ParseError>
+    ensures taken { IfOk result (λ t. (token ≡ Some t) × (is_place ≡ true) × (t.new_line ≡ false) × (shapes.is wanted t.shape ≡ true)) }
+    ensures refused { IfErr result (λ e. (e ≡ Unexpected at) × ((t : Token) → token ≡ Some t → is_place ≡ true → t.new_line ≡ false → shapes.is wanted t.shape ≡ true → ⊥)) }
 {
-    let token = token?;
-    if is_place && !token.new_line && is(wanted, token.shape) {
-        Some(token)
-    } else {
-        None
+    match token {
+        Some(token) if is_place && !token.new_line && is(wanted, token.shape) => Ok(token),
+        _ => Err(ParseError::Unexpected(at)),
+    }
+}
+
+/// The production by which the part goes on with this token.
+fn expand(
+    line: Line,
+    part: Part,
+    token: Option<Token>,
+    at: usize,
+) -> Result<&'static [Symbol], ParseError>
+    ensures chosen { IfOk result (λ rule. (machine.stands_so line token ≡ true) × (machine.pick (spec.rules part) token ≡ Some rule.now)) }
+    ensures refused { IfErr result (λ e. (e ≡ Unexpected at) × ((machine.stands_so line token ≡ false) ⊎ (machine.pick (spec.rules part) token ≡ None))) }
+{
+    if !stands_so(line, token) {
+        return Err(ParseError::Unexpected(at));
+    }
+    match choose(part, token) {
+        Some(rule) => Ok(rule),
+        None => Err(ParseError::Unexpected(at)),
     }
 }
 
@@ -142,28 +163,19 @@ pub fn parse(alloc: Global, tokens: &[Token]) -> Result<Module, ParseError>
     while let Some(symbol) = stack.pop() {
         let token = token_at(tokens, at);
         match symbol {
-            Symbol::Token(line, wanted) => match takes(line, wanted, token) {
-                Some(token) => {
-                    builder.keep(wanted, token)?;
-                    at += 1;
-                }
-                None => return Err(ParseError::Unexpected(at)),
-            },
-            Symbol::Place(wanted) => match takes_after(builder.is_place(), wanted, token) {
-                Some(token) => {
-                    builder.keep(wanted, token)?;
-                    at += 1;
-                }
-                None => return Err(ParseError::Unexpected(at)),
-            },
+            Symbol::Token(line, wanted) => {
+                let token = taken(line, wanted, token, at)?;
+                builder.keep(wanted, token)?;
+                at += 1;
+            }
+            Symbol::Place(wanted) => {
+                let token = taken_after(builder.is_place(), wanted, token, at)?;
+                builder.keep(wanted, token)?;
+                at += 1;
+            }
             Symbol::Part(line, part) => {
-                if !stands_so(line, token) {
-                    return Err(ParseError::Unexpected(at));
-                }
-                match choose(part, token) {
-                    Some(rule) => stack.push_all(rule)?,
-                    None => return Err(ParseError::Unexpected(at)),
-                }
+                let rule = expand(line, part, token, at)?;
+                stack.push_all(rule)?;
             }
             Symbol::Do(action) => builder.act(action)?,
         }

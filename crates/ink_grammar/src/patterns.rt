@@ -4,27 +4,48 @@
 ghost use Rattle.std.specs.Prelude.{◌≡◌, map};
 ghost use Rattle.ink_grammar.specs.Grammar as spec;
 
-use crate::first::{begins_alternative};
+use crate::first::begins_alternative;
 use crate::names::{action, part, token};
 use crate::shape;
 use crate::symbol::{PatternPart, Symbol};
 use crate::token::{Shape, same};
 
-const PATTERN: &[&[Symbol]] = &[
-    &[part::ALTERNATIVE, part::PATTERN_REST],
-];
+const PATTERN: &[&[Symbol]] = &[&[part::ALTERNATIVE, part::PATTERN_REST]];
 
 const ALTERNATIVE: &[&[Symbol]] = &[
     &[token::PATTERN_ATOM],
-    &[token::KEPT_QUOTE, action::EMPTY, part::PATTERN_TEXT_REST, action::TEXT],
+    &[
+        token::KEPT_QUOTE,
+        action::EMPTY,
+        part::PATTERN_TEXT_REST,
+        action::TEXT,
+    ],
     &[token::MUT, token::NAME, action::MUTABLE_NAME],
     &[token::CONSTANT, part::CONSTRUCTOR_PATTERN_REST],
-    &[token::KEPT_LEFT_PAREN, part::PATTERN, token::COMMA, part::PATTERN, part::TUPLE_PATTERN_REST],
-    &[token::KEPT_LEFT_BRACE, action::EMPTY, part::FIELD_PATTERN, action::MORE, part::FIELD_PATTERNS_REST, action::FIELD_PATTERNS],
+    &[
+        token::KEPT_LEFT_PAREN,
+        part::PATTERN,
+        token::COMMA,
+        part::PATTERN,
+        part::TUPLE_PATTERN_REST,
+    ],
+    &[
+        token::KEPT_LEFT_BRACE,
+        action::EMPTY,
+        part::FIELD_PATTERN,
+        action::MORE,
+        part::FIELD_PATTERNS_REST,
+        action::FIELD_PATTERNS,
+    ],
 ];
 
 const PATTERN_REST: &[&[Symbol]] = &[
-    &[token::OR, part::ALTERNATIVE, action::EITHER, part::PATTERN_REST],
+    &[
+        token::OR,
+        part::ALTERNATIVE,
+        action::EITHER,
+        part::PATTERN_REST,
+    ],
     &[],
 ];
 
@@ -34,14 +55,18 @@ const PATTERN_TEXT_REST: &[&[Symbol]] = &[
 ];
 
 const CONSTRUCTOR_PATTERN_REST: &[&[Symbol]] = &[
-    &[token::LEFT_PAREN, action::EMPTY, part::PATTERN, action::MORE, part::PATTERNS_REST, action::CONSTRUCTOR_PATTERN],
+    &[
+        token::LEFT_PAREN,
+        action::EMPTY,
+        part::PATTERN,
+        action::MORE,
+        part::PATTERNS_REST,
+        action::CONSTRUCTOR_PATTERN,
+    ],
     &[],
 ];
 
-const PATTERNS_REST: &[&[Symbol]] = &[
-    &[token::RIGHT_PAREN],
-    &[token::COMMA, part::PATTERNS_MORE],
-];
+const PATTERNS_REST: &[&[Symbol]] = &[&[token::RIGHT_PAREN], &[token::COMMA, part::PATTERNS_MORE]];
 
 const PATTERNS_MORE: &[&[Symbol]] = &[
     &[token::RIGHT_PAREN],
@@ -50,12 +75,20 @@ const PATTERNS_MORE: &[&[Symbol]] = &[
 
 const TUPLE_PATTERN_REST: &[&[Symbol]] = &[
     &[token::RIGHT_PAREN, action::PAIR_PATTERN],
-    &[token::COMMA, part::PATTERN, token::RIGHT_PAREN, action::TRIPLE_PATTERN],
+    &[
+        token::COMMA,
+        part::PATTERN,
+        token::RIGHT_PAREN,
+        action::TRIPLE_PATTERN,
+    ],
 ];
 
-const FIELD_PATTERN: &[&[Symbol]] = &[
-    &[token::FIELD, token::EQUALS, part::PATTERN, action::FIELD_PATTERN],
-];
+const FIELD_PATTERN: &[&[Symbol]] = &[&[
+    token::FIELD,
+    token::EQUALS,
+    part::PATTERN,
+    action::FIELD_PATTERN,
+]];
 
 const FIELD_PATTERNS_REST: &[&[Symbol]] = &[
     &[token::RIGHT_BRACE],
@@ -117,9 +150,12 @@ pub fn begins(part: PatternPart, shape: Shape, _new_line: bool) -> bool
         PatternPart::ConstructorPatternRest => same(shape::LEFT_PAREN, shape),
         PatternPart::PatternsRest => same(shape::RIGHT_PAREN, shape) || same(shape::COMMA, shape),
         PatternPart::PatternsMore => same(shape::RIGHT_PAREN, shape) || begins_alternative(shape),
-        PatternPart::TuplePatternRest => same(shape::RIGHT_PAREN, shape) || same(shape::COMMA, shape),
+        PatternPart::TuplePatternRest => same(shape::RIGHT_PAREN, shape)
+            || same(shape::COMMA, shape),
         PatternPart::FieldPattern => same(shape::FIELD, shape),
-        PatternPart::FieldPatternsRest => same(shape::RIGHT_BRACE, shape) || same(shape::COMMA, shape),
-        PatternPart::FieldPatternsMore => same(shape::RIGHT_BRACE, shape) || same(shape::FIELD, shape),
+        PatternPart::FieldPatternsRest => same(shape::RIGHT_BRACE, shape)
+            || same(shape::COMMA, shape),
+        PatternPart::FieldPatternsMore => same(shape::RIGHT_BRACE, shape)
+            || same(shape::FIELD, shape),
     }
 }

@@ -4,50 +4,53 @@
 ghost use Rattle.std.specs.Prelude.{◌≡◌, map};
 ghost use Rattle.ink_grammar.specs.Grammar as spec;
 
-use crate::first::{begins_expression, begins_jump, begins_operand, begins_statement, begins_unnamed_expression};
+use crate::first::{
+    begins_expression, begins_jump, begins_operand, begins_statement, begins_unnamed_expression,
+};
 use crate::names::{action, part, token};
 use crate::shape;
 use crate::symbol::{StatementPart, Symbol, Wanted, is};
 use crate::token::{Shape, same};
 
-const BLOCK: &[&[Symbol]] = &[
-    &[token::KEPT_LEFT_BRACE, action::EMPTY, part::STATEMENTS, token::KEPT_RIGHT_BRACE, action::BLOCK],
-];
+const BLOCK: &[&[Symbol]] = &[&[
+    token::KEPT_LEFT_BRACE,
+    action::EMPTY,
+    part::STATEMENTS,
+    token::KEPT_RIGHT_BRACE,
+    action::BLOCK,
+]];
 
-const STATEMENTS: &[&[Symbol]] = &[
-    &[part::STATEMENT, action::MORE, part::MORE_STATEMENTS],
-    &[],
-];
+const STATEMENTS: &[&[Symbol]] = &[&[part::STATEMENT, action::MORE, part::MORE_STATEMENTS], &[]];
 
 const MORE_STATEMENTS: &[&[Symbol]] = &[
-    &[part::NEW_LINE_STATEMENT, action::MORE, part::MORE_STATEMENTS],
+    &[
+        part::NEW_LINE_STATEMENT,
+        action::MORE,
+        part::MORE_STATEMENTS,
+    ],
     &[],
 ];
 
 const STATEMENT: &[&[Symbol]] = &[
-    &[token::LET, part::MUTABLE, part::LET_NAME, part::LET_TYPE, token::EQUALS, part::EXPRESSION, action::LET],
+    &[
+        token::LET,
+        part::MUTABLE,
+        part::LET_NAME,
+        part::LET_TYPE,
+        token::EQUALS,
+        part::EXPRESSION,
+        action::LET,
+    ],
     &[part::EXPRESSION, action::STATEMENT],
 ];
 
-const MUTABLE: &[&[Symbol]] = &[
-    &[token::MUT],
-    &[action::NOTHING],
-];
+const MUTABLE: &[&[Symbol]] = &[&[token::MUT], &[action::NOTHING]];
 
-const LET_NAME: &[&[Symbol]] = &[
-    &[token::NAME],
-    &[token::UNDERSCORE],
-];
+const LET_NAME: &[&[Symbol]] = &[&[token::NAME], &[token::UNDERSCORE]];
 
-const LET_TYPE: &[&[Symbol]] = &[
-    &[token::COLON, part::FULL_TYPE],
-    &[action::NOTHING],
-];
+const LET_TYPE: &[&[Symbol]] = &[&[token::COLON, part::FULL_TYPE], &[action::NOTHING]];
 
-const EXPRESSION: &[&[Symbol]] = &[
-    &[part::JUMP],
-    &[part::OPERAND, part::AFTER_OPERAND],
-];
+const EXPRESSION: &[&[Symbol]] = &[&[part::JUMP], &[part::OPERAND, part::AFTER_OPERAND]];
 
 const JUMP: &[&[Symbol]] = &[
     &[token::RETURN, part::RETURN_REST],
@@ -65,12 +68,15 @@ const AFTER_OPERAND: &[&[Symbol]] = &[
     &[part::CHAIN_REST],
 ];
 
-const CHAIN: &[&[Symbol]] = &[
-    &[part::OPERAND, part::CHAIN_REST],
-];
+const CHAIN: &[&[Symbol]] = &[&[part::OPERAND, part::CHAIN_REST]];
 
 const CHAIN_REST: &[&[Symbol]] = &[
-    &[token::SAME_LINE_OPERATOR, part::OPERAND, action::BINARY, part::CHAIN_REST],
+    &[
+        token::SAME_LINE_OPERATOR,
+        part::OPERAND,
+        action::BINARY,
+        part::CHAIN_REST,
+    ],
     &[],
 ];
 
@@ -79,38 +85,38 @@ const UNNAMED_EXPRESSION: &[&[Symbol]] = &[
     &[part::UNNAMED_OPERAND, part::AFTER_OPERAND],
 ];
 
-const CONDITIONAL: &[&[Symbol]] = &[
-    &[token::KEPT_IF, part::CHAIN, action::STATEMENT, part::BLOCK, part::ELSE_REST],
-];
+const CONDITIONAL: &[&[Symbol]] = &[&[
+    token::KEPT_IF,
+    part::CHAIN,
+    action::STATEMENT,
+    part::BLOCK,
+    part::ELSE_REST,
+]];
 
 const ELSE_REST: &[&[Symbol]] = &[
     &[token::ELSE, part::ELSE_BRANCH, action::IF],
     &[action::NOTHING, action::IF],
 ];
 
-const ELSE_BRANCH: &[&[Symbol]] = &[
-    &[part::BLOCK],
-    &[part::CONDITIONAL],
-];
+const ELSE_BRANCH: &[&[Symbol]] = &[&[part::BLOCK], &[part::CONDITIONAL]];
 
-const ARMS: &[&[Symbol]] = &[
-    &[part::ARM, action::MORE, part::ARMS],
-    &[],
-];
+const ARMS: &[&[Symbol]] = &[&[part::ARM, action::MORE, part::ARMS], &[]];
 
-const ARM: &[&[Symbol]] = &[
-    &[token::CASE, part::PATTERN, part::GUARD, token::ARROW, part::ARM_VALUE, action::ARM],
-];
+const ARM: &[&[Symbol]] = &[&[
+    token::CASE,
+    part::PATTERN,
+    part::GUARD,
+    token::ARROW,
+    part::ARM_VALUE,
+    action::ARM,
+]];
 
 const GUARD: &[&[Symbol]] = &[
     &[token::IF, part::CHAIN, action::STATEMENT],
     &[action::NOTHING],
 ];
 
-const ARM_VALUE: &[&[Symbol]] = &[
-    &[part::BLOCK],
-    &[part::EXPRESSION, action::STATEMENT],
-];
+const ARM_VALUE: &[&[Symbol]] = &[&[part::BLOCK], &[part::EXPRESSION, action::STATEMENT]];
 
 /// Each way to write the part.
 pub fn rules(part: StatementPart) -> &'static [&'static [Symbol]]
@@ -185,7 +191,8 @@ pub fn begins(part: StatementPart, shape: Shape, new_line: bool) -> bool
         StatementPart::Expression => begins_expression(shape),
         StatementPart::Jump => begins_jump(shape),
         StatementPart::ReturnRest => !new_line && begins_expression(shape),
-        StatementPart::AfterOperand => !new_line && (is(Wanted::Setter, shape) || is(Wanted::Operator, shape)),
+        StatementPart::AfterOperand => !new_line
+            && (is(Wanted::Setter, shape) || is(Wanted::Operator, shape)),
         StatementPart::Chain => begins_operand(shape),
         StatementPart::ChainRest => !new_line && is(Wanted::Operator, shape),
         StatementPart::UnnamedExpression => begins_unnamed_expression(shape),

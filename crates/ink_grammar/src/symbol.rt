@@ -249,31 +249,25 @@ fn is_operator(found: Shape) -> bool
 fn is_setter(found: Shape) -> bool
     ensures { result ≡ spec.is_setter found }
 {
-    same(shape::EQUALS, found)
-        || same(shape::SWAP, found)
-        || same(shape::OPERATOR_EQUALS, found)
+    same(shape::EQUALS, found) || same(shape::SWAP, found) || same(shape::OPERATOR_EQUALS, found)
 }
 
 fn is_borrow_word(found: Shape) -> bool
     ensures { result ≡ spec.is_borrow_word found }
 {
-    same(shape::REF, found)
-        || same(shape::MUT, found)
+    same(shape::REF, found) || same(shape::MUT, found)
 }
 
 fn is_type_prefix(found: Shape) -> bool
     ensures { result ≡ spec.is_type_prefix found }
 {
-    same(shape::REF, found)
-        || same(shape::MUT, found)
-        || same(shape::UNI, found)
+    same(shape::REF, found) || same(shape::MUT, found) || same(shape::UNI, found)
 }
 
 fn is_loop_jump(found: Shape) -> bool
     ensures { result ≡ spec.is_loop_jump found }
 {
-    same(shape::BREAK, found)
-        || same(shape::NEXT, found)
+    same(shape::BREAK, found) || same(shape::NEXT, found)
 }
 
 fn is_link_name(found: Shape) -> bool

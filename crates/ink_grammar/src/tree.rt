@@ -190,4 +190,3 @@ pub fn is_place_form(form: TwoChildren) -> bool
         _ => false,
     }
 }
-

@@ -4,10 +4,10 @@
 ghost use Rattle.std.specs.Prelude.{◌≡◌, map};
 ghost use Rattle.ink_grammar.specs.Grammar as spec;
 
-use crate::first::{begins_full_type};
+use crate::first::begins_full_type;
 use crate::names::{action, part, token};
 use crate::shape;
-use crate::symbol::{TypePart, Symbol};
+use crate::symbol::{Symbol, TypePart};
 use crate::token::{Shape, same};
 
 const FULL_TYPE: &[&[Symbol]] = &[
@@ -17,16 +17,33 @@ const FULL_TYPE: &[&[Symbol]] = &[
 
 const BARE_TYPE: &[&[Symbol]] = &[
     &[token::CONSTANT, part::TYPE_ARGUMENTS, action::NAMED_TYPE],
-    &[token::KEPT_LEFT_PAREN, part::FULL_TYPE, token::COMMA, part::FULL_TYPE, part::TUPLE_TYPE_REST],
+    &[
+        token::KEPT_LEFT_PAREN,
+        part::FULL_TYPE,
+        token::COMMA,
+        part::FULL_TYPE,
+        part::TUPLE_TYPE_REST,
+    ],
 ];
 
 const TUPLE_TYPE_REST: &[&[Symbol]] = &[
     &[token::RIGHT_PAREN, action::PAIR_TYPE],
-    &[token::COMMA, part::FULL_TYPE, token::RIGHT_PAREN, action::TRIPLE_TYPE],
+    &[
+        token::COMMA,
+        part::FULL_TYPE,
+        token::RIGHT_PAREN,
+        action::TRIPLE_TYPE,
+    ],
 ];
 
 const TYPE_ARGUMENTS: &[&[Symbol]] = &[
-    &[token::LEFT_BRACKET, action::EMPTY, part::FULL_TYPE, action::MORE, part::TYPE_ARGUMENTS_REST],
+    &[
+        token::LEFT_BRACKET,
+        action::EMPTY,
+        part::FULL_TYPE,
+        action::MORE,
+        part::TYPE_ARGUMENTS_REST,
+    ],
     &[action::NOTHING],
 ];
 
@@ -41,7 +58,13 @@ const TYPE_ARGUMENTS_MORE: &[&[Symbol]] = &[
 ];
 
 const TYPE_PARAMETERS: &[&[Symbol]] = &[
-    &[token::LEFT_BRACKET, action::EMPTY, part::TYPE_PARAMETER, action::MORE, part::TYPE_PARAMETERS_REST],
+    &[
+        token::LEFT_BRACKET,
+        action::EMPTY,
+        part::TYPE_PARAMETER,
+        action::MORE,
+        part::TYPE_PARAMETERS_REST,
+    ],
     &[action::NOTHING],
 ];
 
@@ -52,25 +75,44 @@ const TYPE_PARAMETERS_REST: &[&[Symbol]] = &[
 
 const TYPE_PARAMETERS_MORE: &[&[Symbol]] = &[
     &[token::RIGHT_BRACKET],
-    &[part::TYPE_PARAMETER, action::MORE, part::TYPE_PARAMETERS_REST],
+    &[
+        part::TYPE_PARAMETER,
+        action::MORE,
+        part::TYPE_PARAMETERS_REST,
+    ],
 ];
 
-const TYPE_PARAMETER: &[&[Symbol]] = &[
-    &[token::CONSTANT, part::BOUNDS, action::TYPE_PARAMETER],
-];
+const TYPE_PARAMETER: &[&[Symbol]] = &[&[token::CONSTANT, part::BOUNDS, action::TYPE_PARAMETER]];
 
 const BOUNDS: &[&[Symbol]] = &[
-    &[token::COLON, action::EMPTY, token::CONSTANT, action::MORE, part::BOUNDS_REST],
+    &[
+        token::COLON,
+        action::EMPTY,
+        token::CONSTANT,
+        action::MORE,
+        part::BOUNDS_REST,
+    ],
     &[action::NOTHING],
 ];
 
 const BOUNDS_REST: &[&[Symbol]] = &[
-    &[token::PLUS, token::CONSTANT, action::MORE, part::BOUNDS_REST],
+    &[
+        token::PLUS,
+        token::CONSTANT,
+        action::MORE,
+        part::BOUNDS_REST,
+    ],
     &[],
 ];
 
 const CONSTRUCTOR_TYPES: &[&[Symbol]] = &[
-    &[token::LEFT_PAREN, action::EMPTY, part::FULL_TYPE, action::MORE, part::CONSTRUCTOR_TYPES_REST],
+    &[
+        token::LEFT_PAREN,
+        action::EMPTY,
+        part::FULL_TYPE,
+        action::MORE,
+        part::CONSTRUCTOR_TYPES_REST,
+    ],
     &[action::NOTHING],
 ];
 
@@ -139,16 +181,21 @@ pub fn begins(part: TypePart, shape: Shape, _new_line: bool) -> bool
         TypePart::BareType => same(shape::CONSTANT, shape) || same(shape::LEFT_PAREN, shape),
         TypePart::TupleTypeRest => same(shape::RIGHT_PAREN, shape) || same(shape::COMMA, shape),
         TypePart::TypeArguments => same(shape::LEFT_BRACKET, shape),
-        TypePart::TypeArgumentsRest => same(shape::RIGHT_BRACKET, shape) || same(shape::COMMA, shape),
+        TypePart::TypeArgumentsRest => same(shape::RIGHT_BRACKET, shape)
+            || same(shape::COMMA, shape),
         TypePart::TypeArgumentsMore => same(shape::RIGHT_BRACKET, shape) || begins_full_type(shape),
         TypePart::TypeParameters => same(shape::LEFT_BRACKET, shape),
-        TypePart::TypeParametersRest => same(shape::RIGHT_BRACKET, shape) || same(shape::COMMA, shape),
-        TypePart::TypeParametersMore => same(shape::RIGHT_BRACKET, shape) || same(shape::CONSTANT, shape),
+        TypePart::TypeParametersRest => same(shape::RIGHT_BRACKET, shape)
+            || same(shape::COMMA, shape),
+        TypePart::TypeParametersMore => same(shape::RIGHT_BRACKET, shape)
+            || same(shape::CONSTANT, shape),
         TypePart::TypeParameter => same(shape::CONSTANT, shape),
         TypePart::Bounds => same(shape::COLON, shape),
         TypePart::BoundsRest => same(shape::PLUS, shape),
         TypePart::ConstructorTypes => same(shape::LEFT_PAREN, shape),
-        TypePart::ConstructorTypesRest => same(shape::RIGHT_PAREN, shape) || same(shape::COMMA, shape),
-        TypePart::ConstructorTypesMore => same(shape::RIGHT_PAREN, shape) || begins_full_type(shape),
+        TypePart::ConstructorTypesRest => same(shape::RIGHT_PAREN, shape)
+            || same(shape::COMMA, shape),
+        TypePart::ConstructorTypesMore => same(shape::RIGHT_PAREN, shape)
+            || begins_full_type(shape),
     }
 }
