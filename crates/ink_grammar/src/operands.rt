@@ -3,6 +3,7 @@
 
 ghost use Rattle.std.specs.Prelude.{◌≡◌, map};
 ghost use Rattle.ink_grammar.specs.Grammar as spec;
+ghost use Rattle.ink_grammar.specs.declared.symbol.OperandPart.TheVariants.{NamedOrNot};
 
 use crate::first::{
     begins_expression, begins_operand, begins_primary, begins_unnamed_expression,
@@ -270,6 +271,19 @@ pub fn may_be_empty(part: OperandPart) -> bool
     }
 }
 
+fn begins_named_or_not(shape: Shape, new_line: bool) -> bool
+    ensures { result ≡ spec.operand_begins NamedOrNot shape new_line }
+{
+    same(shape::COLON, shape)
+        || same(shape::DOT, shape)
+        || same(shape::RIGHT_PAREN, shape)
+        || same(shape::COMMA, shape)
+        || (!new_line
+            && (same(shape::LEFT_PAREN, shape)
+                || is(Wanted::Setter, shape)
+                || is(Wanted::Operator, shape)))
+}
+
 /// Whether the part may begin with a token of this shape.
 pub fn begins(part: OperandPart, shape: Shape, new_line: bool) -> bool
     ensures { result ≡ spec.operand_begins part shape new_line }
@@ -302,14 +316,7 @@ pub fn begins(part: OperandPart, shape: Shape, new_line: bool) -> bool
         OperandPart::ConstructorArguments => same(shape::RIGHT_PAREN, shape)
             || same(shape::NAME, shape)
             || begins_unnamed_expression(shape),
-        OperandPart::NamedOrNot => same(shape::COLON, shape)
-            || same(shape::DOT, shape)
-            || same(shape::RIGHT_PAREN, shape)
-            || same(shape::COMMA, shape)
-            || (!new_line
-                && (same(shape::LEFT_PAREN, shape)
-                    || is(Wanted::Setter, shape)
-                    || is(Wanted::Operator, shape))),
+        OperandPart::NamedOrNot => begins_named_or_not(shape, new_line),
         OperandPart::NamedRest => same(shape::RIGHT_PAREN, shape) || same(shape::COMMA, shape),
         OperandPart::NamedMore => same(shape::RIGHT_PAREN, shape) || same(shape::NAME, shape),
     }
