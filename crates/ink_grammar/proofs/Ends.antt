@@ -1,5 +1,5 @@
 -- What a parser's state says at its ends.
-use Rattle.std.proofs.Common.{◌≡◌, ℕ, ◌+◌, ◌-◌, ◌<◌, ◌≤◌, List, [], ◌∷◌, ◌++◌, length, take, get_or, Option, Some, None, refl, sym, ap, subst, ◌∙◌, append_assoc, append-nil, arith}
+use Rattle.std.proofs.Common.{◌≡◌, ℕ, ◌+◌, ◌-◌, ◌<◌, ◌≤◌, List, [], ◌∷◌, ◌++◌, length, take, get_or, Option, Some, None, sym, ap, subst, ◌∙◌, append_assoc, append-nil, arith}
 use Rattle.std.specs.Prelude.{slice_get}
 use Rattle.std.proofs.lemmas.List.{take_more}
 use Rattle.std.proofs.lemmas.Option.{slice_get_past, slice_get_within, get_or_from_slice_get, slice_get-get_or}
@@ -23,15 +23,16 @@ use Rattle.ink_grammar.specs.Shapes.{is, stands}
 use Rattle.ink_grammar.specs.Machine.{pick, stands_so}
 use Rattle.ink_grammar.specs.Tree.{keep, act, is_place}
 use Rattle.ink_grammar.proofs.Measure.{work, work_part}
+use Rattle.ink_grammar.proofs.Cases.{from, to}
 
 pub one_more : (ts : List Token) (at : ℕ) (t : Token) → slice_get ts at ≡ Some t → take (at + 1) ts ≡ take at ts ++ t ∷ []
 one_more ts at t e = take_more ts at t (slice_get_within ts at t e) ∙ ap (λ x. take at ts ++ x ∷ []) (get_or_from_slice_get ts at t t e)
 
 parsed : {ts : List Token} {fin : List Found} → Reads start [] ts fin → Parses ts (first fin)
-parsed {fin = fin} d = (fin, derived d, refl)
+parsed d = let c = to (derived d) in (c.0, c.1, sym (ap first c.2))
 
-unparsed : {ts : List Token} {tree : Tree} → (p : Parses ts tree) → Reads start [] ts p.0
-unparsed p = underived p.1
+unparsed : {ts : List Token} {tree : Tree} → (p : Parses ts tree) → Reads start [] ts (p.0 ∷ [])
+unparsed p = underived (from p.1 [])
 
 begins : {read : List Token} → Begun read → Begins read
 begins b = (b.more, first b.fin, parsed b.reads)
@@ -45,8 +46,8 @@ refused ts at h s n = (
   h,
   begins s.begun,
   (λ l b. let t = some_at ts at l in
-      n (t.0 ∷ b.0) b.2.0 (sym t.1) (subst (λ x. Reads start [] x b.2.0) (ap (λ x. x ++ b.0) (one_more ts at t.0 t.1) ∙ append_assoc (take at ts) (t.0 ∷ []) b.0) (unparsed b.2))),
-  (λ e tree p. n [] p.0 (sym (slice_get_past ts at (omega arith))) (subst (λ x. Reads start [] x p.0) (sym (append-nil (take at ts) ∙ ap (λ n. take n ts) e ∙ take_all (length ts) ts (omega arith))) (unparsed p))),
+      n (t.0 ∷ b.0) (b.2.0 ∷ []) (sym t.1) (subst (λ x. Reads start [] x (b.2.0 ∷ [])) (ap (λ x. x ++ b.0) (one_more ts at t.0 t.1) ∙ append_assoc (take at ts) (t.0 ∷ []) b.0) (unparsed b.2))),
+  (λ e tree p. n [] (p.0 ∷ []) (sym (slice_get_past ts at (omega arith))) (subst (λ x. Reads start [] x (p.0 ∷ [])) (sym (append-nil (take at ts) ∙ ap (λ n. take n ts) e ∙ take_all (length ts) ts (omega arith))) (unparsed p))),
 )
 
 -- One turn of the parser, in its own words: the symbol x is taken off the stack s, and o is the next token.
@@ -126,4 +127,4 @@ module _ (ts : List Token) (at : ℕ) (s : List Symbol) (vs : List Found) (e : s
     end_parsed tree g = subst (λ z. Parses ts z) (sym g) (parsed (subst (λ z. Reads start [] z vs) all_read (finished (take at ts) vs last)))
 
     pub end_only : (tree : Tree) → tree ≡ first vs → (t : Tree) → Parses ts t → t ≡ tree
-    end_only tree g t p = sym p.2 ∙ ap first (only_one (take at ts) vs p.0 last (subst (λ z. Reads start [] z p.0) (sym all_read) (unparsed p))) ∙ sym g
+    end_only tree g t p = sym p.2 ∙ ap first (only_one (take at ts) vs (p.0 ∷ []) last (subst (λ z. Reads start [] z (p.0 ∷ [])) (sym all_read) (unparsed p))) ∙ sym g

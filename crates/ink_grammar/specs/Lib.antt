@@ -3,6 +3,8 @@ pub mod Grammar
 pub mod Tree
 pub mod Machine
 pub mod Reads
+pub mod Parts
+pub mod Productions
 pub mod Language
 pub mod Built
 pub mod Views

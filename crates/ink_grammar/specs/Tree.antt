@@ -71,6 +71,42 @@ abbrev pub keep : Wanted → Token → List Found → List Found
 keep (wanted.Mark s) t vs = vs
 keep _ t vs = record { tree = Leaf t; start = t.start; is_place = is_place_word t.shape } ∷ vs
 
+-- what a token that is kept says
+abbrev pub leaf : Token → Found
+leaf t = record { tree = Leaf t; start = t.start; is_place = is_place_word t.shape }
+
+-- a list without items
+abbrev pub no_items : Found
+no_items = value Empty 0
+
+-- nothing, where something is left out
+abbrev pub nothing : Found
+nothing = value Missing 0
+
+-- a value in parentheses begins at the first of them, and is no place
+abbrev pub in_parentheses : Found → Found → Found
+in_parentheses opening inner = value inner.tree opening.start
+
+-- a node of one value, which begins where the first does
+abbrev pub node_one : OneChild → Found → Found
+node_one form a = value (One form a.start a.tree) a.start
+
+-- a node of two values, which begins where the first does
+abbrev pub node_two : TwoChildren → Found → Found → Found
+node_two form a b = record { tree = Two form a.start a.tree b.tree; start = a.start; is_place = is_place_form form }
+
+-- a node of three values, which begins where the first does
+abbrev pub node_three : ThreeChildren → Found → Found → Found → Found
+node_three form a b c = value (Three form a.start a.tree b.tree c.tree) a.start
+
+-- a node of four values, which begins where the first does
+abbrev pub node_four : FourChildren → Found → Found → Found → Found → Found
+node_four form a b c d = value (Four form a.start a.tree b.tree c.tree d.tree) a.start
+
+-- a node of five values, which begins where the first does
+abbrev pub node_five : FiveChildren → Found → Found → Found → Found → Found → Found
+node_five form a b c d e = value (Five form a.start a.tree b.tree c.tree d.tree e.tree) a.start
+
 -- a value in parentheses begins at the first of them, and is no place
 abbrev pub closed : List Found → List Found
 closed vs = value (first vs) (start (rest vs)) ∷ rest (rest vs)
