@@ -1,0 +1,16 @@
+pub mod Bools
+pub mod Checks
+pub mod Steps
+pub mod Samples
+pub mod Runs
+pub mod Grown
+pub mod Measure
+pub mod Ends
+pub mod Meaning
+pub mod ModuleCases
+pub mod MethodCases
+pub mod TypeCases
+pub mod StatementCases
+pub mod OperandCases
+pub mod PatternCases
+pub mod Cases

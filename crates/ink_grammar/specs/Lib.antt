@@ -1,0 +1,11 @@
+pub mod Shapes
+pub mod Grammar
+pub mod Tree
+pub mod Machine
+pub mod Reads
+pub mod Parts
+pub mod Productions
+pub mod Language
+pub mod Built
+pub mod Views
+pub mod Faults

@@ -1,0 +1,78 @@
+//! Which tokens the larger parts may begin with.
+
+ghost use Rattle.std.specs.Prelude.{◌≡◌};
+ghost use Rattle.ink_grammar.specs.Grammar as spec;
+
+use crate::shape;
+use crate::symbol::{Wanted, is};
+use crate::token::{Shape, same};
+
+pub fn begins_primary(shape: Shape) -> bool
+    ensures { result ≡ spec.begins_primary shape }
+{
+    is(Wanted::Atom, shape)
+        || same(shape::QUOTE, shape)
+        || same(shape::LEFT_PAREN, shape)
+        || same(shape::LEFT_BRACKET, shape)
+        || same(shape::IF, shape)
+        || same(shape::WHILE, shape)
+        || same(shape::LOOP, shape)
+        || same(shape::MATCH, shape)
+}
+
+pub fn begins_unnamed_operand(shape: Shape) -> bool
+    ensures { result ≡ spec.begins_unnamed_operand shape }
+{
+    is(Wanted::BorrowWord, shape)
+        || same(shape::TRY, shape)
+        || same(shape::RECOVER, shape)
+        || same(shape::CONSTANT, shape)
+        || begins_primary(shape)
+}
+
+pub fn begins_jump(shape: Shape) -> bool
+    ensures { result ≡ spec.begins_jump shape }
+{
+    same(shape::RETURN, shape) || same(shape::THROW, shape) || is(Wanted::LoopJump, shape)
+}
+
+pub fn begins_operand(shape: Shape) -> bool
+    ensures { result ≡ spec.begins_operand shape }
+{
+    same(shape::NAME, shape) || begins_unnamed_operand(shape)
+}
+
+pub fn begins_expression(shape: Shape) -> bool
+    ensures { result ≡ spec.begins_expression shape }
+{
+    begins_jump(shape) || begins_operand(shape)
+}
+
+pub fn begins_unnamed_expression(shape: Shape) -> bool
+    ensures { result ≡ spec.begins_unnamed_expression shape }
+{
+    begins_jump(shape) || begins_unnamed_operand(shape)
+}
+
+pub fn begins_statement(shape: Shape) -> bool
+    ensures { result ≡ spec.begins_statement shape }
+{
+    same(shape::LET, shape) || begins_expression(shape)
+}
+
+pub fn begins_full_type(shape: Shape) -> bool
+    ensures { result ≡ spec.begins_full_type shape }
+{
+    is(Wanted::TypePrefix, shape) || same(shape::CONSTANT, shape) || same(shape::LEFT_PAREN, shape)
+}
+
+pub fn begins_alternative(shape: Shape) -> bool
+    ensures { result ≡ spec.begins_alternative shape }
+{
+    is(Wanted::PatternAtom, shape)
+        || same(shape::QUOTE, shape)
+        || same(shape::MUT, shape)
+        || same(shape::CONSTANT, shape)
+        || same(shape::LEFT_PAREN, shape)
+        || same(shape::LEFT_BRACE, shape)
+}
