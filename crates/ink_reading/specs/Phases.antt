@@ -13,7 +13,9 @@ use Rattle.ink_grammar.specs.declared.parser.ParseError.TheVariants.{Unexpected}
 use Rattle.ink_grammar.specs.Language.{Parses}
 use Rattle.ink_grammar.specs.Faults.{IsFault}
 use Rattle.ink_grammar.specs.Views.{tree}
+use Rattle.ink_grammar.specs.Tree.{Tree}
 use Rattle.ink_shapes.specs.Shaped.{shaped}
+use Rattle.ink_heights.specs.Heights.{first_too_high}
 
 -- a rule that is broken at a byte, as it is told
 abbrev pub broken : List ℕ → Rule → ℕ → Refusal
@@ -39,3 +41,10 @@ JudgesGrammar source tokens (Err (Refused refusal)) =
     (number : ℕ) × IsFault (seen_by_grammar source tokens) (Unexpected number)
     × (refusal ≡ broken source rule.Unexpected (byte_of source tokens number))
 JudgesGrammar source tokens (Err OutOfMemory) = Unit {0}
+
+-- the answer is that nothing in the tree is higher than this, or the first node that is
+abbrev pub JudgesHeight : List ℕ → ℕ → Tree → Result (Unit {0}) JudgeFault → Type 0
+JudgesHeight source most tree (Ok _) = first_too_high most tree ≡ None
+JudgesHeight source most tree (Err (Refused refusal)) =
+    (byte : ℕ) × (first_too_high most tree ≡ Some byte) × (refusal ≡ broken source rule.TooDeep byte)
+JudgesHeight source most tree (Err OutOfMemory) = Unit {0}

@@ -1,10 +1,12 @@
 -- What a source is read as, or which rule it breaks first.
-use Rattle.std.specs.Prelude.{◌≡◌, ℕ, ◌<◌, ◌≤◌, List, length, Result, Ok, Err}
+use Rattle.std.specs.Prelude.{◌≡◌, ℕ, ◌<◌, ◌≤◌, List, length, Some, None, Result, Ok, Err}
 use Rattle.ink_base.specs.declared.token.Token.{Token}
-use Rattle.ink_base.specs.declared.refusal.Rule.TheVariants.{SourceTooLong, NotUtf8, Unexpected}
+use Rattle.ink_base.specs.declared.refusal.Rule.TheVariants.{SourceTooLong, NotUtf8, Unexpected, TooDeep}
 use Rattle.ink_base.specs.declared.refusal.Refusal.{Refusal}
 use Rattle.ink_base.specs.declared.refusal.JudgeFault.{JudgeFault}
 use Rattle.ink_base.specs.declared.refusal.JudgeFault.TheVariants.{Refused, OutOfMemory}
+use Rattle.ink_base.specs.declared.limits.Limit.TheVariants.{Source, Height}
+use Rattle.ink_base.specs.Limits.{limit_of}
 use Rattle.ink_text.specs.Utf8.{Utf8, StopsAt}
 use Rattle.ink_tokens.specs.Lexes as lexes
 use Rattle.ink_grammar.specs.declared.parser.ParseError.TheVariants as fault
@@ -12,29 +14,37 @@ use Rattle.ink_grammar.specs.Tree.{Tree}
 use Rattle.ink_grammar.specs.Language.{Parses}
 use Rattle.ink_grammar.specs.Faults.{IsFault}
 use Rattle.ink_grammar.specs.Views.{tree}
+use Rattle.ink_heights.specs.Heights.{first_too_high}
 use Rattle.ink_reading.specs.declared.reading.Reading.{Reading}
 use Rattle.ink_reading.specs.Phases.{broken, seen_by_grammar, byte_of}
 
--- a source of at most so many bytes has these tokens and this tree
-pub record IsRead (most : ℕ) (source : List ℕ) (tokens : List Token) (tree : Tree) : Type 0 where
-  pub short : length source ≤ most
+-- the source is no longer than its limit
+abbrev pub IsShort : List ℕ → List ℕ → Type 0
+IsShort limits source = length source ≤ limit_of Source limits
+
+-- within these limits a source has these tokens and this tree
+pub record IsRead (limits source : List ℕ) (tokens : List Token) (tree : Tree) : Type 0 where
+  pub short : IsShort limits source
   pub text : Utf8 source
   pub lexed : lexes.AreTokens source tokens
   pub parsed : Parses (seen_by_grammar source tokens) tree
+  pub low : first_too_high (limit_of Height limits) tree ≡ None
 
 -- the first phase that a source breaks, and what is told of it
-pub data IsRefused (most : ℕ) (source : List ℕ) : Refusal → Type 0 where
+pub data IsRefused (limits source : List ℕ) : Refusal → Type 0 where
   -- length: it has more bytes than the limit, and the place is the first of them that is over it
-  too_long : most < length source → IsRefused most source (broken source SourceTooLong most)
+  too_long : limit_of Source limits < length source → IsRefused limits source (broken source SourceTooLong (limit_of Source limits))
   -- bytes: it isn't UTF-8, and the place is where it stops being so
-  no_text : {byte : ℕ} → length source ≤ most → StopsAt source byte → IsRefused most source (broken source NotUtf8 byte)
+  no_text : {byte : ℕ} → IsShort limits source → StopsAt source byte → IsRefused limits source (broken source NotUtf8 byte)
   -- tokens: it has none, for this reason
-  no_tokens : {refusal : Refusal} → length source ≤ most → Utf8 source → lexes.Answers source (Err (Refused refusal)) → IsRefused most source refusal
+  no_tokens : {refusal : Refusal} → IsShort limits source → Utf8 source → lexes.Answers source (Err (Refused refusal)) → IsRefused limits source refusal
   -- grammar: no module begins with the tokens up to this one, or they end too early
-  no_module : {tokens : List Token} {number : ℕ} → length source ≤ most → Utf8 source → lexes.AreTokens source tokens → IsFault (seen_by_grammar source tokens) (fault.Unexpected number) → IsRefused most source (broken source Unexpected (byte_of source tokens number))
+  no_module : {tokens : List Token} {number : ℕ} → IsShort limits source → Utf8 source → lexes.AreTokens source tokens → IsFault (seen_by_grammar source tokens) (fault.Unexpected number) → IsRefused limits source (broken source Unexpected (byte_of source tokens number))
+  -- height: this is the first node that is too high
+  too_deep : {tokens : List Token} {tree : Tree} {byte : ℕ} → IsShort limits source → Utf8 source → lexes.AreTokens source tokens → Parses (seen_by_grammar source tokens) tree → first_too_high (limit_of Height limits) tree ≡ Some byte → IsRefused limits source (broken source TooDeep byte)
 
 -- the answer is what the source is read as, or the first rule that it breaks; where there was no memory, nothing is known
-abbrev pub Answers : ℕ → List ℕ → Result Reading JudgeFault → Type 0
-Answers most source (Ok reading) = IsRead most source reading.tokens.items (tree reading.«module»)
-Answers most source (Err (Refused refusal)) = IsRefused most source refusal
-Answers most source (Err OutOfMemory) = Unit {0}
+abbrev pub Answers : List ℕ → List ℕ → Result Reading JudgeFault → Type 0
+Answers limits source (Ok reading) = IsRead limits source reading.tokens.items (tree reading.«module»)
+Answers limits source (Err (Refused refusal)) = IsRefused limits source refusal
+Answers limits source (Err OutOfMemory) = Unit {0}

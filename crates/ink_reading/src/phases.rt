@@ -1,15 +1,18 @@
 //! The phases of the reading, each with its own rule.
 ghost use Rattle.std.specs.Prelude.{◌≡◌, ◌+◌, ◌<◌, ◌≤◌, ◌^◌, ℕ, length, All, OnOk, IfErr, slice_get};
 ghost use Rattle.ink_base.specs.Limits.{limit_of};
-ghost use Rattle.ink_base.specs.declared.limits.Limit.TheVariants.{Source};
+ghost use Rattle.ink_base.specs.declared.limits.Limit.TheVariants.{Source, Height};
 ghost use Rattle.ink_base.specs.declared.refusal.Rule.TheVariants.{SourceTooLong, NotUtf8};
 ghost use Rattle.ink_base.specs.declared.refusal.JudgeFault.TheVariants.{Refused};
 ghost use Rattle.ink_text.specs.Utf8.{Utf8, StopsAt};
 ghost use Rattle.ink_tokens.specs.Lexes.{IsInside};
-ghost use Rattle.ink_reading.specs.Phases.{broken, start_or_end, byte_of, JudgesGrammar};
+ghost use Rattle.ink_text.specs.Place.{place_at};
+ghost use Rattle.ink_grammar.specs.Views.{tree};
+ghost use Rattle.ink_reading.specs.Phases.{broken, start_or_end, byte_of, JudgesGrammar, JudgesHeight};
 
-use ink_base::{JudgeFault, Limit, Limits, Refusal, Rule, Token};
+use ink_base::{JudgeFault, Limit, Limits, Place, Refusal, Rule, Token};
 use ink_grammar::{Module, ParseError, parse};
+use ink_heights::first_too_high;
 use ink_shapes::shapes;
 use ink_text::{decode, place_of};
 use std::alloc::Global;
@@ -84,5 +87,35 @@ pub(crate) fn judge_grammar(
             let byte = byte_of(source, tokens, number);
             Err(broken(source, Rule::Unexpected, byte))
         }
+    }
+}
+
+/// The place of a byte. One behind the end, which no node has, has the line and the column of the end.
+fn place_in(source: &[u8], byte: u32) -> Place
+    requires { length source.now + 1 < 2 ^ 32 }
+    ensures { result ≡ place_at source.now byte }
+{
+    let end = source.len() as u32;
+    let place = place_of(source, byte.min(end));
+    Place { byte, ..place }
+}
+
+/// Refuses the first expression, pattern or type of the module that is higher than the limit.
+pub(crate) fn judge_height(
+    alloc: Global,
+    source: &[u8],
+    parsed: &Module,
+    limits: &Limits,
+) -> Result<(), JudgeFault>
+    requires { length source.now + 1 < 2 ^ 32 }
+    ensures { JudgesHeight source.now (limit_of Height limits.now) (tree parsed.now) result }
+{
+    match first_too_high(alloc, parsed, limits.get(Limit::Height))? {
+        None => Ok(()),
+        Some(byte) => Err(JudgeFault::Refused(Refusal {
+            rule: Rule::TooDeep,
+            place: place_in(source, byte),
+            detail: None,
+        })),
     }
 }

@@ -1,9 +1,7 @@
 //! A source that is read.
-ghost use Rattle.ink_base.specs.Limits.{limit_of};
-ghost use Rattle.ink_base.specs.declared.limits.Limit.TheVariants.{Source};
 ghost use Rattle.ink_reading.specs.Reading.{Answers};
 
-use crate::phases::{judge_grammar, judge_length, judge_text};
+use crate::phases::{judge_grammar, judge_height, judge_length, judge_text};
 use ink_base::{JudgeFault, Limits, Token};
 use ink_grammar::Module;
 use ink_tokens::tokens;
@@ -22,18 +20,19 @@ pub struct Reading {
 ///
 /// Refused is the first phase that the source breaks: `SourceTooLong` at the first byte over the limit; `NotUtf8` where
 /// it stops being UTF-8; `BadToken`, `IntTooWide` or `UnendedText` as the tokens have it; `Unexpected` at the first
-/// token with which no module begins, or at the end of the source. Heights are not judged. `OutOfMemory` says nothing
-/// of the source.
+/// token with which no module begins, or at the end of the source; `TooDeep` at the first expression, pattern or type
+/// that is higher than the limit. `OutOfMemory` says nothing of the source.
 pub fn read_module(
     alloc: Global,
     source: &[u8],
     limits: &Limits,
 ) -> Result<Reading, JudgeFault>
-    ensures { Answers (limit_of Source limits.now) source.now result }
+    ensures { Answers limits.now source.now result }
 {
     judge_length(source, limits)?;
     judge_text(source)?;
     let tokens = tokens(alloc, source)?;
     let module = judge_grammar(alloc, source, &tokens)?;
+    judge_height(alloc, source, &module, limits)?;
     Ok(Reading { tokens, module })
 }
