@@ -6,5 +6,7 @@
 
 mod phases;
 mod reading;
+#[cfg(test)]
+mod tests;
 
 pub use reading::{Reading, read_module};

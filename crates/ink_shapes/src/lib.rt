@@ -7,5 +7,7 @@
 mod keyword;
 mod mark;
 mod shaped;
+#[cfg(test)]
+mod tests;
 
 pub use shaped::{shape_of, shapes};
