@@ -1,5 +1,5 @@
 -- What is known of the nodes that were read is what is known of their trees.
-use Rattle.std.proofs.Common.{◌≡◌, ℕ, suc, ◌+◌, ◌<◌, List, [], ◌∷◌, ◌++◌, length, map, take, get_or, refl, sym, ap, subst, ◌∙◌, add-one}
+use Rattle.std.proofs.Common.{◌≡◌, ℕ, ◌+◌, ◌<◌, List, [], ◌∷◌, ◌++◌, length, map, take, get_or, refl, sym, ap, ◌∙◌, add-one}
 use Rattle.std.proofs.lemmas.List.{map-append}
 use Rattle.std.proofs.Math.ListN.{get_or-map}
 use Rattle.std.proofs.Math.Seq.{take-suc}
@@ -61,7 +61,7 @@ known-more most nodes i known read more last default inside is_known is_read is_
     let node = get_or nodes i default in
     let grown = trees (take i nodes) in
     let is_next : last ≡ measure most (grow grown node) =
-        is_last ∙ ap (λ k. measured most k node) (is_read ∙ is_known) ∙ measured-grow most grown node in
+    is_last ∙ ap (λ k. measured most k node) (is_read ∙ is_known) ∙ measured-grow most grown node in
     let is_taken : take (i + 1) nodes ≡ take i nodes ++ node ∷ [] = rw add-one (take-suc nodes i default inside) in
     is_more ∙ ap (λ k. k ++ last ∷ []) is_known
     ∙ ap (λ m. map (measure most) grown ++ m ∷ []) is_next

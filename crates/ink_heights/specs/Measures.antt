@@ -1,5 +1,5 @@
 -- What is known of a node, by what is known of its children.
-use Rattle.std.specs.Prelude.{ℕ, ◌+◌, Bool, true, false, nat_lt, min, max, if◌then◌else◌, Option, None, Some}
+use Rattle.std.specs.Prelude.{ℕ, ◌+◌, Bool, nat_lt, min, max, if◌then◌else◌, Option, None, Some}
 use Rattle.ink_grammar.specs.declared.token.Shape.{Shape}
 use Rattle.ink_grammar.specs.declared.tree.TwoChildren.{TwoChildren}
 use Rattle.ink_grammar.specs.declared.tree.ThreeChildren.{ThreeChildren}

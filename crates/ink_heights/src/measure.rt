@@ -103,13 +103,7 @@ fn place_of(most: u64, inside: Option<u32>, height: u64, start: u32) -> Option<u
 {
     match inside {
         Some(place) => Some(place),
-        None => {
-            if most < height {
-                Some(start)
-            } else {
-                None
-            }
-        }
+        None => { if most < height { Some(start) } else { None } }
     }
 }
 
@@ -230,7 +224,10 @@ pub(crate) fn three(
 ) -> Result<Measure, AllocError>
     ensures { IfOk result (λ measure. measure ≡ spec.three most form start a b c) }
 {
-    let before = over(part(first_of_three(form), a), part(second_of_three(form), b));
+    let before = over(
+        part(first_of_three(form), a),
+        part(second_of_three(form), b),
+    );
     let within = over(before, part(third_of_three(form), c));
     node_or_plain(most, is_node_of_three(form), start, within)
 }

@@ -1,5 +1,5 @@
 -- What the phases answer, as the reading does.
-use Rattle.std.proofs.Common.{◌≡◌, ℕ, ◌<◌, ◌≤◌, List, length, Result, Ok, Err, refl, sym, ap, subst, ◌∙◌}
+use Rattle.std.proofs.Common.{◌≡◌, ℕ, ◌<◌, List, length, Result, Err, sym, subst}
 use Rattle.ink_base.specs.declared.token.Token.{Token}
 use Rattle.ink_base.specs.declared.refusal.Rule.TheVariants.{SourceTooLong, NotUtf8}
 use Rattle.ink_base.specs.declared.refusal.JudgeFault.{JudgeFault}
@@ -11,9 +11,8 @@ use Rattle.ink_base.specs.declared.limits.Limit.TheVariants.{Source, Height}
 use Rattle.ink_base.specs.Limits.{limit_of}
 use Rattle.ink_grammar.specs.Tree.{Tree}
 use Rattle.ink_grammar.specs.Language.{Parses}
-use Rattle.ink_heights.specs.Heights.{first_too_high}
 use Rattle.ink_reading.specs.Phases.{broken, seen_by_grammar, JudgesGrammar, JudgesHeight}
-use Rattle.ink_reading.specs.Reading.{Answers, IsShort, IsRead, too_long, no_text, no_tokens, no_module, too_deep}
+use Rattle.ink_reading.specs.Reading.{Answers, IsShort, too_long, no_text, no_tokens, no_module, too_deep}
 
 -- the answer that is a fault
 pub answers-fault : (limits source : List ℕ) (result : Result Reading JudgeFault) (fault : JudgeFault) →

@@ -22,11 +22,7 @@ pub struct Reading {
 /// it stops being UTF-8; `BadToken`, `IntTooWide` or `UnendedText` as the tokens have it; `Unexpected` at the first
 /// token with which no module begins, or at the end of the source; `TooDeep` at the first expression, pattern or type
 /// that is higher than the limit. `OutOfMemory` says nothing of the source.
-pub fn read_module(
-    alloc: Global,
-    source: &[u8],
-    limits: &Limits,
-) -> Result<Reading, JudgeFault>
+pub fn read_module(alloc: Global, source: &[u8], limits: &Limits) -> Result<Reading, JudgeFault>
     ensures { Answers limits.now source.now result }
 {
     judge_length(source, limits)?;

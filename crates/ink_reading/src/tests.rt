@@ -6,12 +6,7 @@ use std::alloc::{AllocError, Global};
 use std::test::Fail;
 
 /// What is told of the source within these limits of length and height.
-fn told_within(
-    alloc: Global,
-    source: &[u8],
-    length: u64,
-    height: u64,
-) -> Result<Text, AllocError> {
+fn told_within(alloc: Global, source: &[u8], length: u64, height: u64) -> Result<Text, AllocError> {
     let numbers = [length, height, 1, 1, 1, 1, 1, 1, 1, 1, 1, 1, 1, 1];
     let Ok(limits) = Limits::new(numbers) else {
         return Text::of(alloc, b"no limits");
@@ -61,14 +56,8 @@ fn refuses_by_the_first_phase(rt: HostRuntime) -> Result<(), Fail> {
             b"fn f {\n  let next = 1\n}",
             b"E05 Unexpected at line 2, column 7",
         ),
-        (
-            b"fn f { t.0x1 }",
-            b"E05 Unexpected at line 1, column 10",
-        ),
-        (
-            b"fn f { (a) = 1 }",
-            b"E05 Unexpected at line 1, column 12",
-        ),
+        (b"fn f { t.0x1 }", b"E05 Unexpected at line 1, column 10"),
+        (b"fn f { (a) = 1 }", b"E05 Unexpected at line 1, column 12"),
         (b"fn f {", b"E05 Unexpected at line 1, column 7"),
         (b"fn f {\n# x", b"E05 Unexpected at line 2, column 4"),
         (b"let @a: Int", b"E05 Unexpected at line 1, column 1"),
@@ -100,13 +89,20 @@ fn refuses_what_is_too_high(rt: HostRuntime) -> Result<(), Fail> {
         (b"fn f { A.B(1) }", 2, 8),
         (b"fn f { A.b }", 2, 8),
         (b"fn f(a: ref Array[Array[Int]]) { }", 3, 9),
-        (b"fn f { match a { case A(B(c)) or mut d or e -> 1 } }", 5, 8),
+        (
+            b"fn f { match a { case A(B(c)) or mut d or e -> 1 } }",
+            5,
+            8,
+        ),
         (b"fn f { let x: (Int, Int) = if a { return 1 } }", 3, 28),
     ];
     for (source, height, column) in high {
         let wanted = format!(in rt.alloc(); "E06 TooDeep at line 1, column {column}")?;
         assert!(rt; height > 1);
-        assert!(rt; told_within(rt.alloc(), source, 1000, height)?.is(b"read"), "{source:?}");
+        assert!(rt;
+            told_within(rt.alloc(), source, 1000, height)?.is(b"read"),
+            "{source:?}"
+        );
         let text = told_within(rt.alloc(), source, 1000, height - 1)?;
         assert!(rt; text.is(wanted.as_bytes()), "{source:?}");
     }

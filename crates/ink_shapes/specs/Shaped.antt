@@ -1,5 +1,5 @@
 -- Tokens as the grammar sees them.
-use Rattle.std.specs.Prelude.{ℕ, Bool, ◌==◌, if◌then◌else◌, List, Option, None, Some}
+use Rattle.std.specs.Prelude.{ℕ, ◌==◌, if◌then◌else◌, List, Option, None, Some}
 use Rattle.std.specs.List.{list_any}
 use Rattle.ink_base.specs.declared.token.TokenKind.{TokenKind}
 use Rattle.ink_base.specs.declared.token.TokenKind.TheVariants as kind

@@ -40,7 +40,10 @@ fn texts(mark: Mark) -> &'static [&'static [u8]]
         Mark::Equals => &[b"="],
         Mark::Arrow => &[b"->"],
         Mark::Plus => &[b"+"],
-        Mark::Operator => &[b"-", b"*", b"/", b"%", b"==", b"!=", b"<", b"<=", b">", b">=", b"&", b"|", b"^", b"<<", b">>"],
+        Mark::Operator => &[
+            b"-", b"*", b"/", b"%", b"==", b"!=", b"<", b"<=", b">", b">=", b"&", b"|", b"^",
+            b"<<", b">>",
+        ],
         Mark::OperatorEquals => &[b"+=", b"-=", b"*=", b"/=", b"%="],
     }
 }

@@ -61,7 +61,11 @@ fn tells_marks_apart(rt: HostRuntime) -> Result<(), Fail> {
         (b"-=", Mark::OperatorEquals),
     ];
     for (source, mark) in wanted {
-        assert_eq!(rt; first(rt.alloc(), source)?, Some(Shape::Mark(mark)), "{source:?}");
+        assert_eq!(rt;
+            first(rt.alloc(), source)?,
+            Some(Shape::Mark(mark)),
+            "{source:?}"
+        );
     }
     Ok(())
 }

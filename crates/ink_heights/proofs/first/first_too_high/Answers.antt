@@ -1,6 +1,5 @@
-use Rattle.std.proofs.Common.{◌≡◌, map, subst, sym, ap, ◌∙◌, arith}
+use Rattle.std.proofs.Common.{map, sym, ap, ◌∙◌, arith}
 use Rattle.ink_heights.specs.Heights.{measure}
-use Rattle.ink_heights.specs.Known.{measured}
 use Rattle.ink_heights.proofs.KnownLemmas.{trees-none, known-more}
 use Rattle.ink_heights.proofs.first.first_too_high.Goals as goal
 

@@ -1,4 +1,4 @@
-use Rattle.std.proofs.Common.{◌≡◌, sym, ◌∙◌}
+use Rattle.std.proofs.Common.{◌∙◌}
 use Rattle.ink_reading.proofs.GrammarLemmas.{refuses-grammar}
 use Rattle.ink_reading.proofs.phases.judge_grammar.Goals as goal
 

@@ -1,7 +1,7 @@
-use Rattle.std.proofs.Common.{◌≡◌, ℕ, Bool, List, [], ◌∷◌, map, refl, ap, sym, ◌∙◌, Bor, ◌||◌}
+use Rattle.std.proofs.Common.{◌≡◌, ℕ, Bool, List, [], ◌∷◌, map, refl, ap, ◌∙◌, Bor, ◌||◌}
 use Rattle.std.specs.List.{list_any}
 use Rattle.std.specs.Str.{bytes_eq}
-use Rattle.ink_shapes.specs.Marks.{texts, is_written}
+use Rattle.ink_shapes.specs.Marks.{is_written}
 use Rattle.ink_shapes.proofs.mark.is_written.Goals as goal
 
 -- a test of what references show
