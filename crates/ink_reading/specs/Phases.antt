@@ -34,9 +34,14 @@ start_or_end source None = length source
 abbrev pub byte_of : List ℕ → List Token → ℕ → ℕ
 byte_of source tokens number = start_or_end source (slice_get tokens number)
 
+-- the tokens are the module of this tree, and of no other
+abbrev pub IsOnlyTree : List ℕ → List Token → Tree → Type 0
+IsOnlyTree source tokens tree =
+    Parses (seen_by_grammar source tokens) tree × ((other : Tree) → Parses (seen_by_grammar source tokens) other → other ≡ tree)
+
 -- the answer is the module that the tokens are, or the first token with which no module begins
 abbrev pub JudgesGrammar : List ℕ → List Token → Result Module JudgeFault → Type 0
-JudgesGrammar source tokens (Ok parsed) = Parses (seen_by_grammar source tokens) (tree parsed)
+JudgesGrammar source tokens (Ok parsed) = IsOnlyTree source tokens (tree parsed)
 JudgesGrammar source tokens (Err (Refused refusal)) =
     (number : ℕ) × IsFault (seen_by_grammar source tokens) (Unexpected number)
     × (refusal ≡ broken source rule.Unexpected (byte_of source tokens number))

@@ -43,8 +43,25 @@ pub data IsRefused (limits source : List ℕ) : Refusal → Type 0 where
   -- height: this is the first node that is too high
   too_deep : {tokens : List Token} {tree : Tree} {byte : ℕ} → IsShort limits source → Utf8 source → lexes.AreTokens source tokens → Parses (seen_by_grammar source tokens) tree → first_too_high (limit_of Height limits) tree ≡ Some byte → IsRefused limits source (broken source TooDeep byte)
 
--- the answer is what the source is read as, or the first rule that it breaks; where there was no memory, nothing is known
+-- what becomes of a source
+pub data Outcome : Type 0 where
+  -- it has these tokens and this tree
+  Reads : (tokens : List Token) (tree : Tree) → Outcome
+  -- it is refused
+  Refuses : (refusal : Refusal) → Outcome
+
+-- what a source comes to within these limits
+abbrev pub ComesTo : List ℕ → List ℕ → Outcome → Type 0
+ComesTo limits source (Reads tokens tree) = IsRead limits source tokens tree
+ComesTo limits source (Refuses refusal) = IsRefused limits source refusal
+
+-- it comes to this, and to nothing else
+pub record ComesOnlyTo (limits source : List ℕ) (outcome : Outcome) : Type 0 where
+  pub comes : ComesTo limits source outcome
+  pub only : (other : Outcome) → ComesTo limits source other → other ≡ outcome
+
+-- the answer is what the source comes to; where there was no memory, nothing is known
 abbrev pub Answers : List ℕ → List ℕ → Result Reading JudgeFault → Type 0
-Answers limits source (Ok reading) = IsRead limits source reading.tokens.items (tree reading.«module»)
-Answers limits source (Err (Refused refusal)) = IsRefused limits source refusal
+Answers limits source (Ok reading) = ComesOnlyTo limits source (Reads reading.tokens.items (tree reading.«module»))
+Answers limits source (Err (Refused refusal)) = ComesOnlyTo limits source (Refuses refusal)
 Answers limits source (Err OutOfMemory) = Unit {0}

@@ -1,6 +1,6 @@
 use Rattle.std.proofs.Common.{rules}
 use Rattle.ink_grammar.specs.Views.{tree}
-use Rattle.ink_reading.proofs.ReadingLemmas.{answers-fault, answers-length, answers-text, answers-tokens, answers-grammar, answers-height}
+use Rattle.ink_reading.proofs.ReadingLemmas.{answers-fault, answers-length, answers-text, answers-tokens, answers-grammar, answers-height, answers-read}
 use Rattle.ink_reading.proofs.reading.read_module.Goals as goal
 
 pub returns-in_err-judge_length : goal.returns-in_err-judge_length
@@ -39,3 +39,10 @@ returns-in_err-judge_height c =
     (answers-height limits c.args.source.now c.in_ok-tokens.tokens.items c.deref.result.now (tree c.in_ok-module.«module»)
     c.in_err-judge_height.field-0.0 c.in_ok-judge_length.ensures.short c.in_ok-judge_text.ensures.text
     c.in_ok-tokens.ensures.answers c.deref.ensures.value c.in_ok-module.ensures c.in_err-judge_height.ensures)
+
+pub returns : goal.returns
+returns c =
+    answers-read c.args.limits.now c.args.source.now c.deref.result.now
+    (record { tokens = c.in_ok-tokens.tokens; «module» = c.in_ok-module.«module» }) c.in_ok-judge_length.ensures.short
+    c.in_ok-judge_text.ensures.text c.in_ok-tokens.ensures.answers c.deref.ensures.value c.in_ok-module.ensures
+    c.in_ok-judge_height.ensures
