@@ -46,7 +46,10 @@ place_of most None height start = if nat_lt most height then Some start else Non
 unfoldable pub node : ℕ → ℕ → Measure → Measure
 node most start within =
     let height = within.height + 1 in
-    record { height = height; items = 0; alternatives = height; inside = within.place; place = place_of most within.place height start }
+    record {
+      height = height; items = 0; alternatives = height;
+      inside = within.place; place = place_of most within.place height start;
+    }
 
 -- of a node that may be none of these
 unfoldable pub node_or_plain : ℕ → Bool → ℕ → Measure → Measure

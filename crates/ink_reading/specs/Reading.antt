@@ -33,15 +33,21 @@ pub record IsRead (limits source : List ℕ) (tokens : List Token) (tree : Tree)
 -- the first phase that a source breaks, and what is told of it
 pub data IsRefused (limits source : List ℕ) : Refusal → Type 0 where
   -- length: it has more bytes than the limit, and the place is the first of them that is over it
-  too_long : limit_of Source limits < length source → IsRefused limits source (broken source SourceTooLong (limit_of Source limits))
+  too_long : limit_of Source limits < length source →
+      IsRefused limits source (broken source SourceTooLong (limit_of Source limits))
   -- bytes: it isn't UTF-8, and the place is where it stops being so
   no_text : {byte : ℕ} → IsShort limits source → StopsAt source byte → IsRefused limits source (broken source NotUtf8 byte)
   -- tokens: it has none, for this reason
-  no_tokens : {refusal : Refusal} → IsShort limits source → Utf8 source → lexes.Answers source (Err (Refused refusal)) → IsRefused limits source refusal
+  no_tokens : {refusal : Refusal} → IsShort limits source → Utf8 source → lexes.Answers source (Err (Refused refusal)) →
+      IsRefused limits source refusal
   -- grammar: no module begins with the tokens up to this one, or they end too early
-  no_module : {tokens : List Token} {number : ℕ} → IsShort limits source → Utf8 source → lexes.AreTokens source tokens → IsFault (seen_by_grammar source tokens) (fault.Unexpected number) → IsRefused limits source (broken source Unexpected (byte_of source tokens number))
+  no_module : {tokens : List Token} {number : ℕ} → IsShort limits source → Utf8 source → lexes.AreTokens source tokens →
+      IsFault (seen_by_grammar source tokens) (fault.Unexpected number) →
+      IsRefused limits source (broken source Unexpected (byte_of source tokens number))
   -- height: this is the first node that is too high
-  too_deep : {tokens : List Token} {tree : Tree} {byte : ℕ} → IsShort limits source → Utf8 source → lexes.AreTokens source tokens → Parses (seen_by_grammar source tokens) tree → first_too_high (limit_of Height limits) tree ≡ Some byte → IsRefused limits source (broken source TooDeep byte)
+  too_deep : {tokens : List Token} {tree : Tree} {byte : ℕ} → IsShort limits source → Utf8 source →
+      lexes.AreTokens source tokens → Parses (seen_by_grammar source tokens) tree →
+      first_too_high (limit_of Height limits) tree ≡ Some byte → IsRefused limits source (broken source TooDeep byte)
 
 -- what becomes of a source
 pub data Outcome : Type 0 where

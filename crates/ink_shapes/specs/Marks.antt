@@ -26,7 +26,9 @@ texts m.Swap = codes ":=" ∷ []
 texts m.Equals = codes "=" ∷ []
 texts m.Arrow = codes "->" ∷ []
 texts m.Plus = codes "+" ∷ []
-texts m.Operator = codes "-" ∷ codes "*" ∷ codes "/" ∷ codes "%" ∷ codes "==" ∷ codes "!=" ∷ codes "<" ∷ codes "<=" ∷ codes ">" ∷ codes ">=" ∷ codes "&" ∷ codes "|" ∷ codes "^" ∷ codes "<<" ∷ codes ">>" ∷ []
+texts m.Operator =
+    codes "-" ∷ codes "*" ∷ codes "/" ∷ codes "%" ∷ codes "==" ∷ codes "!=" ∷ codes "<" ∷ codes "<="
+    ∷ codes ">" ∷ codes ">=" ∷ codes "&" ∷ codes "|" ∷ codes "^" ∷ codes "<<" ∷ codes ">>" ∷ []
 texts m.OperatorEquals = codes "+=" ∷ codes "-=" ∷ codes "*=" ∷ codes "/=" ∷ codes "%=" ∷ []
 
 -- whether a mark may be written so
