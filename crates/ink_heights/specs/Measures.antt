@@ -47,8 +47,11 @@ unfoldable pub node : ℕ → ℕ → Measure → Measure
 node most start within =
     let height = within.height + 1 in
     record {
-      height = height; items = 0; alternatives = height;
-      inside = within.place; place = place_of most within.place height start;
+      height = height;
+      items = 0;
+      alternatives = height;
+      inside = within.place;
+      place = place_of most within.place height start;
     }
 
 -- of a node that may be none of these

@@ -33,7 +33,7 @@ refusal-same : (source : List ℕ) (one other : Refusal) → lexes.Answers sourc
     lexes.Answers source (Err (Refused other)) → one ≡ other
 refusal-same source one other (fault_one, comes_one, told_one) (fault_other, comes_other, told_other) =
     let same : lexes.Refuses fault_one ≡ lexes.Refuses fault_other =
-        one_outcome source (lexes.Refuses fault_one) (lexes.Refuses fault_other) comes_one comes_other in cc
+    one_outcome source (lexes.Refuses fault_one) (lexes.Refuses fault_other) comes_one comes_other in cc
 
 over-limit : (limits source : List ℕ) → limit_of Source limits < length source → IsShort limits source → ⊥
 over-limit limits source long short = omega arith
@@ -104,7 +104,7 @@ only-height limits source tokens tree byte short text lexed parses one_tree high
     let same = tokens-same source other tokens read.lexed lexed in
     let same_tree = one_tree deep (subst (λ ts. Parses (seen_by_grammar source ts) deep) same read.parsed) in
     let low : first_too_high (limit_of Height limits) tree ≡ None =
-        ap (first_too_high (limit_of Height limits)) (sym same_tree) ∙ read.low in
+    ap (first_too_high (limit_of Height limits)) (sym same_tree) ∙ read.low in
     cc
 only-height limits source tokens tree byte short text lexed parses one_tree high (Refuses _) (too_long long) =
     absurd (over-limit limits source long short)
@@ -118,7 +118,7 @@ only-height limits source tokens tree byte short text lexed parses one_tree high
     let same = tokens-same source other tokens also lexed in
     let same_tree = one_tree deep (subst (λ ts. Parses (seen_by_grammar source ts) deep) same deep_parses) in
     let also_high : first_too_high (limit_of Height limits) tree ≡ Some at =
-        ap (first_too_high (limit_of Height limits)) (sym same_tree) ∙ deep_high in
+    ap (first_too_high (limit_of Height limits)) (sym same_tree) ∙ deep_high in
     let same_byte : at ≡ byte = cc in
     ap (λ b. Refuses (broken source TooDeep b)) same_byte
 
@@ -142,5 +142,5 @@ only-reads limits source tokens tree short text lexed parses one_tree low (Refus
     let same = tokens-same source other tokens also lexed in
     let same_tree = one_tree deep (subst (λ ts. Parses (seen_by_grammar source ts) deep) same deep_parses) in
     let also_high : first_too_high (limit_of Height limits) tree ≡ Some at =
-        ap (first_too_high (limit_of Height limits)) (sym same_tree) ∙ deep_high in
+    ap (first_too_high (limit_of Height limits)) (sym same_tree) ∙ deep_high in
     cc

@@ -64,7 +64,7 @@ pub answers-read : (limits source : List ℕ) (seen : List Token) (reading : Rea
     first_too_high (limit_of Height limits) (view.tree reading.«module») ≡ None → Answers limits source (Ok reading)
 answers-read limits source seen reading short text lexed is parsed low =
     let only : IsOnlyTree source reading.tokens.items (view.tree reading.«module») =
-        subst (λ ts. IsOnlyTree source ts (view.tree reading.«module»)) is parsed in
+    subst (λ ts. IsOnlyTree source ts (view.tree reading.«module»)) is parsed in
     record {
       comes = record { short = short; text = text; lexed = lexed; parsed = only.0; low = low };
       only = only-reads limits source reading.tokens.items (view.tree reading.«module») short text lexed only.0 only.1 low;
