@@ -1,5 +1,5 @@
 -- What a source comes to where a phase is broken, and where none is: nothing else.
-use Rattle.std.proofs.Common.{◌≡◌, ℕ, ◌<◌, ◌≤◌, List, length, Some, None, Err, refl, sym, ap, subst, ◌∙◌, arith}
+use Rattle.std.proofs.Common.{◌≡◌, ℕ, ◌<◌, List, length, Some, None, Err, refl, sym, ap, subst, ◌∙◌, arith}
 use Rattle.ink_base.specs.declared.token.Token.{Token}
 use Rattle.ink_base.specs.declared.limits.Limit.TheVariants.{Source, Height}
 use Rattle.ink_base.specs.declared.refusal.Rule.TheVariants.{SourceTooLong, NotUtf8, Unexpected, TooDeep}
@@ -15,7 +15,7 @@ use Rattle.ink_grammar.specs.Language.{Parses}
 use Rattle.ink_grammar.specs.Faults.{IsFault}
 use Rattle.ink_heights.specs.Heights.{first_too_high}
 use Rattle.ink_reading.specs.Phases.{broken, seen_by_grammar, byte_of}
-use Rattle.ink_reading.specs.Reading.{IsShort, IsRead, IsRefused, too_long, no_text, no_tokens, no_module, too_deep, Outcome, Reads, Refuses, ComesTo}
+use Rattle.ink_reading.specs.Reading.{IsShort, too_long, no_text, no_tokens, no_module, too_deep, Outcome, Reads, Refuses, ComesTo}
 use Rattle.ink_reading.proofs.FaultLemmas.{stops-not, stops-same, fault-not, fault-same}
 
 -- a source has one list of tokens
