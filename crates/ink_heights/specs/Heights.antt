@@ -15,6 +15,10 @@ measure most (Three form start a b c) = three most form start (measure most a) (
 measure most (Four form start a b c d) = four most form start (measure most b) (measure most c) (measure most d)
 measure most (Five form start a b c d e) = five form (measure most d) (measure most e)
 
+-- the greatest height of an expression, a pattern or a type in a tree
+abbrev pub height : Tree → ℕ
+height tree = (measure 0 tree).height
+
 -- the byte of the first expression, pattern or type that is higher than this and has no such one in it
 abbrev pub first_too_high : ℕ → Tree → Option ℕ
 first_too_high most tree = (measure most tree).place

@@ -1,4 +1,7 @@
 use Rattle.std.proofs.Common.{map, sym, ap, ◌∙◌, arith}
+use Rattle.std.proofs.lemmas.Grind.{common_steps}
+use Rattle.ink_grammar.specs.Views.{tree}
+use Rattle.ink_heights.proofs.LowLemmas.{told-none}
 use Rattle.ink_heights.specs.Heights.{measure}
 use Rattle.ink_heights.proofs.KnownLemmas.{trees-none, known-more}
 use Rattle.ink_heights.proofs.first.first_too_high.Goals as goal
@@ -11,3 +14,6 @@ loop-node-preserved c =
     known-more c.args.most c.nodes-node-items.result.now c.loop-node.node-index c.loop-node.known.items c.deref.result.now
     c.push.new.self.items c.in_ok-measure.measure _ (omega arith) c.loop-node.invariant c.deref.ensures.value
     c.in_ok-measure.ensures c.in_ok-push.ensures.items
+
+pub returns-clause-none : goal.returns-clause-none
+returns-clause-none c = told-none c.args.most (tree c.args.parsed.now) c.at.result.place (grind (arith, common_steps))
