@@ -5,12 +5,18 @@
 #![tactic(auto)]
 
 mod build;
+#[cfg(test)]
+mod drops;
 mod look;
 #[cfg(test)]
 mod loops;
+#[cfg(test)]
+mod panics;
+#[cfg(test)]
+mod slices;
 
 pub use build::{
     at_once, constant, invoke, limits_with, make, method, named, prim, process, registers,
     small_code, stop,
 };
-pub use look::{holds_int, is_int, is_owner, panics_with, shown, stands, went};
+pub use look::{holds_int, is_int, is_owner, panics_with, shown, stands, text_is, went};

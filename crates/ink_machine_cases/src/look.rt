@@ -32,6 +32,14 @@ pub fn is_int(value: Option<&Value>, number: i64) -> bool {
     }
 }
 
+/// Whether it is that text.
+pub fn text_is(value: Option<&Value>, bytes: &[u8]) -> bool {
+    match value {
+        Some(Value::Txt(text)) => text.is(bytes),
+        _ => false,
+    }
+}
+
 /// Whether it owns the object of process 1 with that serial.
 pub fn is_owner(value: Option<&Value>, serial: u64) -> bool {
     match value {
