@@ -36,7 +36,7 @@ impl Stack {
         self.items.pop()
     }
 
-    /// Puts a symbol on it. Without memory the stack is as before.
+    /// Puts a symbol on it.
     pub fn push(&mut self, symbol: Symbol) -> Result<(), AllocError>
         ensures { OnOk result (self.new ≡ symbol ∷ self.old) }
     {
