@@ -1,0 +1,4 @@
+pub mod Counted
+pub mod Measures
+pub mod Heights
+pub mod Known

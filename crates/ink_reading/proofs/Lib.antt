@@ -1,0 +1,4 @@
+pub mod FaultLemmas
+pub mod GrammarLemmas
+pub mod OnlyLemmas
+pub mod ReadingLemmas

@@ -1,0 +1,13 @@
+//! What the grammar tells apart of a token, by its kind and its text.
+//!
+//! A scanner knows that a word is a keyword, and this room which one. Nothing here knows which tokens follow one another:
+//! that a keyword behind a `.` is read as a name is the grammar's work.
+#![tactic(auto)]
+
+mod keyword;
+mod mark;
+mod shaped;
+#[cfg(test)]
+mod tests;
+
+pub use shaped::{shape_of, shapes};
