@@ -1,3 +1,4 @@
 pub mod Table
 pub mod Surround
 pub mod Printed
+pub mod Work
