@@ -70,9 +70,11 @@ token_work _ p = []
 abbrev pub expansion : Node → ℕ → Place → List Work
 expansion x number p = sign_work (opening p (rank_of x)) ++ (token_work x p ++ (map (work_of x number) (steps_of x (inner p)) ++ sign_work (closing p (rank_of x))))
 
--- the work of this number at a place: none where no node has it
+-- the work of a node of a number at a place: none where there is no node
+abbrev pub work_at : Option Node → ℕ → Place → List Work
+work_at None number p = []
+work_at (Some x) number p = expansion x number p
+
+-- the work of this number at a place
 abbrev pub opened : List Node → ℕ → Place → List Work
-opened nodes number p = unless_missing (slice_get nodes number) where
-  unless_missing : Option Node → List Work
-  unless_missing None = []
-  unless_missing (Some x) = expansion x number p
+opened nodes number p = work_at (slice_get nodes number) number p

@@ -1,5 +1,6 @@
 //! The canonical print of a module: one text for each tree, however its source was laid out.
 //!
+//! It is made in two steps. First the tree becomes a list of pieces, one for each token of the print, by a table of the
 //! forms (`specs/Table` and `specs/Printed`). Then each piece is written behind the blanks that it and the piece before
 //! it ask for (`specs/Layout`).
 //!
@@ -9,9 +10,10 @@
 mod expand;
 mod forms;
 mod place;
+mod printer;
 mod step;
 mod surround;
 mod work;
 
-
+pub use printer::pieces;
 pub use step::{Piece, Sign};

@@ -1,0 +1,4 @@
+pub mod Trees
+pub mod Told
+pub mod Cost
+pub mod Turns
