@@ -2,3 +2,4 @@ pub mod Trees
 pub mod Told
 pub mod Cost
 pub mod Turns
+pub mod Laid

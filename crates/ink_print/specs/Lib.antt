@@ -2,3 +2,4 @@ pub mod Table
 pub mod Surround
 pub mod Printed
 pub mod Work
+pub mod Layout

@@ -7,13 +7,17 @@
 //! Which trees are modules, and what they mean, is not known here. A tree that no source has is printed too.
 #![tactic(auto)]
 
+mod class;
 mod expand;
 mod forms;
+mod layout;
 mod place;
+mod print;
 mod printer;
 mod step;
 mod surround;
 mod work;
 
+pub use print::print_module;
 pub use printer::pieces;
 pub use step::{Piece, Sign};
