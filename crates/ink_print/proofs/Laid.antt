@@ -63,5 +63,5 @@ piece_on source whole text spaced more bytes ps i other depth here now before k 
     ap (λ y. more ++ laid source (drop y ps) now k) next ∙ ap (λ y. more ++ laid source (drop (suc i) ps) y k) behind
     ∙ ap (λ y. more ++ laid source (drop (suc i) ps) (depth_behind (class_of p) (depth_at (class_of p) depth)) y) e
     ∙ laid_on source whole text spaced more (drop i ps) (drop (suc i) ps) p depth before (drop-cons ps i other l)
-      (g ∙ ap (λ y. text ++ gap y before k) at ∙ ap (λ y. text ++ gap (depth_at (class_of p) depth) before y) e)
-      (m ∙ ap (λ y. spaced ++ y) b) h
+    (g ∙ ap (λ y. text ++ gap y before k) at ∙ ap (λ y. text ++ gap (depth_at (class_of p) depth) before y) e)
+    (m ∙ ap (λ y. spaced ++ y) b) h

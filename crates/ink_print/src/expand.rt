@@ -136,12 +136,7 @@ fn push_token(stack: &mut Stack, node: Node, place: Place) -> Result<(), AllocEr
 }
 
 /// Puts the steps of the node of this number before the work.
-fn push_steps(
-    stack: &mut Stack,
-    node: Node,
-    number: u32,
-    steps: &[Step],
-) -> Result<(), AllocError>
+fn push_steps(stack: &mut Stack, node: Node, number: u32, steps: &[Step]) -> Result<(), AllocError>
     ensures { OnOk result (stack.new ≡ map (spec.work_of node number) steps.now ++ stack.old) }
 {
     for i in (0..steps.len()).rev() {
@@ -162,12 +157,7 @@ fn expand(stack: &mut Stack, node: Node, number: u32, place: Place) -> Result<()
 }
 
 /// Puts the work of this number, at its place, before the work. Where no node has the number, there is none.
-pub fn open(
-    stack: &mut Stack,
-    nodes: &[Node],
-    number: u32,
-    place: Place,
-) -> Result<(), AllocError>
+pub fn open(stack: &mut Stack, nodes: &[Node], number: u32, place: Place) -> Result<(), AllocError>
     ensures { OnOk result (stack.new ≡ spec.opened nodes.now number place ++ stack.old) }
 {
     match nodes.get(number as usize) {

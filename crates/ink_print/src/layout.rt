@@ -75,12 +75,7 @@ fn write_indentation(text: &mut Vec<u8>, depth: usize) -> Result<(), AllocError>
 }
 
 /// Writes the blanks between two neighbours, among so many open blocks.
-fn write_gap(
-    text: &mut Vec<u8>,
-    depth: usize,
-    before: Class,
-    here: Class,
-) -> Result<(), AllocError>
+fn write_gap(text: &mut Vec<u8>, depth: usize, before: Class, here: Class) -> Result<(), AllocError>
     ensures { OnOk result (text.new.items ≡ text.old.items ++ spec.gap depth before here) }
 {
     match here {

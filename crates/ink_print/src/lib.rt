@@ -16,6 +16,8 @@ mod print;
 mod printer;
 mod step;
 mod surround;
+#[cfg(test)]
+mod tests;
 mod work;
 
 pub use print::print_module;
