@@ -1,6 +1,6 @@
 -- What a turn of the layout does to the bytes that are still to come.
-use Rattle.std.proofs.Common.{◌≡◌, ℕ, ◌+◌, ◌*◌, ◌<◌, List, [], ◌∷◌, ◌++◌, length, drop, replicate, refl, sym, ap, ◌∙◌, arith}
-use Rattle.std.proofs.Common.{get_or, suc, ◌-◌, ◌≤◌}
+use Rattle.std.proofs.Common.{◌≡◌, ℕ, ◌+◌, ◌*◌, ◌<◌, List, [], ◌∷◌, ◌++◌, length, drop, replicate, sym, ap, ◌∙◌, arith}
+use Rattle.std.proofs.Common.{get_or, suc, ◌≤◌}
 use Rattle.std.proofs.Math.Seq.{drop-cons}
 use Rattle.ink_print.specs.declared.class.Class.TheVariants as class
 use Rattle.std.proofs.lemmas.List.{append_assoc, append-nil, replicate-append-replicate}

@@ -1,5 +1,5 @@
 -- What the work that is still to do will print.
-use Rattle.std.proofs.Common.{◌≡◌, ℕ, Bool, true, false, nat_lt, List, [], ◌∷◌, ◌++◌, length, map, Option, Some, None, refl, sym, ap, ◌∙◌, if◌then◌else◌}
+use Rattle.std.proofs.Common.{◌≡◌, ℕ, true, false, nat_lt, List, [], ◌∷◌, ◌++◌, length, map, Option, Some, None, refl, sym, ap, ◌∙◌, if◌then◌else◌}
 use Rattle.std.specs.Prelude.{slice_get}
 use Rattle.std.proofs.lemmas.List.{append_assoc}
 use Rattle.ink_grammar.proofs.Bools.{by_cases}
@@ -18,7 +18,7 @@ use Rattle.ink_print.specs.declared.step.Step.TheVariants as step
 use Rattle.ink_print.specs.declared.work.Work.{Work}
 use Rattle.ink_print.specs.declared.work.Work.TheVariants as work
 use Rattle.ink_print.specs.Surround.{opening, closing, inner}
-use Rattle.ink_print.specs.Printed.{chosen, fill, sign_piece, around, token_piece, no_pieces, printed}
+use Rattle.ink_print.specs.Printed.{chosen, fill, sign_piece, token_piece, no_pieces, printed}
 use Rattle.ink_print.specs.Work.{child, rank_of, steps_of, child_work, work_of, sign_work, token_work, expansion, work_at, opened}
 use Rattle.ink_print.proofs.Trees.{split, tree_past, tree_at, tree_before, tree_behind}
 

@@ -1,5 +1,5 @@
 -- What a turn of the printer does to the pieces that are still to come, and to its cost.
-use Rattle.std.proofs.Common.{◌≡◌, ℕ, ◌+◌, ◌<◌, List, [], ◌∷◌, ◌++◌, refl, sym, ap, ◌∙◌, arith}
+use Rattle.std.proofs.Common.{◌≡◌, ℕ, ◌<◌, List, [], ◌∷◌, ◌++◌, sym, ap, ◌∙◌, arith}
 use Rattle.std.proofs.lemmas.List.{append_assoc, append-nil}
 use Rattle.ink_grammar.specs.declared.tree.Node.{Node}
 use Rattle.ink_grammar.specs.Built.{at, trees}
@@ -10,7 +10,7 @@ use Rattle.ink_print.specs.declared.work.Work.TheVariants as work
 use Rattle.ink_print.specs.Printed.{printed}
 use Rattle.ink_print.specs.Work.{opened}
 use Rattle.ink_print.proofs.Told.{told, told_none, told_next, told_both, told_opened}
-use Rattle.ink_print.proofs.Cost.{turns, cost, cost_next, cost_both, cost_opened}
+use Rattle.ink_print.proofs.Cost.{cost, cost_next, cost_both, cost_opened}
 
 module _ (ns : List Node) where
   -- before the first turn

@@ -1,5 +1,5 @@
 -- What each form is printed as, step by step.
-use Rattle.std.specs.Prelude.{ℕ, List, [], ◌∷◌}
+use Rattle.std.specs.Prelude.{List, [], ◌∷◌}
 use Rattle.ink_grammar.specs.declared.tree.OneChild.{OneChild}
 use Rattle.ink_grammar.specs.declared.tree.OneChild.TheVariants as one_of
 use Rattle.ink_grammar.specs.declared.tree.TwoChildren.{TwoChildren}
@@ -14,7 +14,6 @@ use Rattle.ink_print.specs.declared.place.Place.{Place}
 use Rattle.ink_print.specs.declared.place.Place.TheVariants as place
 use Rattle.ink_print.specs.declared.step.Sign.{Sign}
 use Rattle.ink_print.specs.declared.step.Sign.TheVariants as sign
-use Rattle.ink_print.specs.declared.step.Slot.{Slot}
 use Rattle.ink_print.specs.declared.step.Slot.TheVariants as slot
 use Rattle.ink_print.specs.declared.step.Step.{Step}
 use Rattle.ink_print.specs.declared.step.Step.TheVariants as step

@@ -1,4 +1,3 @@
-use Rattle.std.proofs.Common.{sym, ap, ◌∙◌}
 use Rattle.ink_grammar.specs.Views as view
 use Rattle.ink_print.specs.Printed as spec
 use Rattle.ink_print.specs.declared.place.Place.TheVariants as place
