@@ -13,8 +13,8 @@ use std::alloc::{AllocError, Global};
 /// The canonical print of a module that was read from this source. The only error is want of memory.
 ///
 /// A token that isn't inside the source has no bytes, and a child that isn't a node before its parent stands for
-/// nothing: what `parse` gives has neither. The time grows as the count of nodes and pieces and the length of the text,
-/// so as a tree does whose nodes have one parent each.
+/// nothing: what `parse` gives has neither. Each node is taken up once for each parent that it has, which is one in what
+/// `parse` gives, so the time grows as the module and its print do.
 pub fn print_module(alloc: Global, source: &[u8], tree: &Module) -> Result<Text, AllocError>
     ensures { IfOk result (λ text. text ≡ spec.print source.now (view.tree tree.now)) }
 {

@@ -129,51 +129,167 @@ const CASES: &[(&[u8], &[u8])] = &[
     // Lines, blocks, and the `(` of an import.
     (
         b"import std . stdio ( Stdout , ) type async Main { fn async main { Stdout . new . print ( ' ${ 2 + 3 * 4 ~} ' ) } } ",
-        b"import std.stdio (Stdout)\ntype async Main {\n  fn async main {\n    Stdout.new.print('${2 + 3 * 4}')\n  }\n}\n",
+        b"import std.stdio (Stdout)
+type async Main {
+  fn async main {
+    Stdout.new.print('${2 + 3 * 4}')
+  }
+}
+",
     ),
     // Fields, keywords before types, an assignment.
     (
-        b"import a . b\ntype async Sum { let @sum : Int fn async mut add ( items : uni Array [ Int ] , ) { @sum += items . get ( 0 ) . get\nif @sum == 0 { print ( ' ~sum  ${ @sum ~} ' ) } } } ",
-        b"import a.b\ntype async Sum {\n  let @sum: Int\n  fn async mut add(items: uni Array[Int]) {\n    @sum += items.get(0).get\n    if @sum == 0 {\n      print('sum${@sum}')\n    }\n  }\n}\n",
+        b"import a . b
+type async Sum { let @sum : Int fn async mut add ( items : uni Array [ Int ] , ) { @sum += items . get ( 0 ) . get
+if @sum == 0 { print ( ' ~sum  ${ @sum ~} ' ) } } } ",
+        b"import a.b
+type async Sum {
+  let @sum: Int
+  fn async mut add(items: uni Array[Int]) {
+    @sum += items.get(0).get
+    if @sum == 0 {
+      print('sum${@sum}')
+    }
+  }
+}
+",
     ),
     // Bounds, constructors, an empty block, no trailing commas.
     (
         b"type pub enum Tree [ T : Equal + Hash , U , ] { case Node ( T , ( Int , U ) , ) case End fn static make -> ref ( A , mut B , C ) { } } ",
-        b"type pub enum Tree[T: Equal + Hash, U] {\n  case Node(T, (Int, U))\n  case End\n  fn static make -> ref (A, mut B, C) { }\n}\n",
+        b"type pub enum Tree[T: Equal + Hash, U] {
+  case Node(T, (Int, U))
+  case End
+  fn static make -> ref (A, mut B, C) { }
+}
+",
     ),
     // Traits and impls.
     (
         b"trait pub Show { fn pub move show ( ) -> String fn end } impl Show for Tree { fn show { } } impl Tree { } ",
-        b"trait pub Show {\n  fn pub move show() -> String\n  fn end\n}\nimpl Show for Tree {\n  fn show { }\n}\nimpl Tree { }\n",
+        b"trait pub Show {
+  fn pub move show() -> String
+  fn end
+}
+impl Show for Tree {
+  fn show { }
+}
+impl Tree { }
+",
     ),
     // Parentheses, exactly where they are needed.
     (
-        b"fn f { let mut a : Int = ( 1 + 2 ) + ( 3 - -4 )\n( ( a ) . b ) . c = ( a = 1 )\n( ref a ) . b\nref ( a . b )\ntry ( a + b )\n( try a ) + b\n( return ) + ( next )\n( Stdout ) . new } ",
-        b"fn f {\n  let mut a: Int = 1 + 2 + (3 - -4)\n  a.b.c = a = 1\n  (ref a).b\n  ref a.b\n  try (a + b)\n  try a + b\n  (return) + (next)\n  Stdout.new\n}\n",
+        b"fn f { let mut a : Int = ( 1 + 2 ) + ( 3 - -4 )
+( ( a ) . b ) . c = ( a = 1 )
+( ref a ) . b
+ref ( a . b )
+try ( a + b )
+( try a ) + b
+( return ) + ( next )
+( Stdout ) . new } ",
+        b"fn f {
+  let mut a: Int = 1 + 2 + (3 - -4)
+  a.b.c = a = 1
+  (ref a).b
+  ref a.b
+  try (a + b)
+  try a + b
+  (return) + (next)
+  Stdout.new
+}
+",
     ),
     (
-        b"fn f { while ( a := b ) { break }\nif ( a and b ) { }\nloop { next }\nmatch ( throw ( a ) ) { case _ -> ( a ) }\nrecover ( a . b )\nrecover { a } } ",
-        b"fn f {\n  while (a := b) {\n    break\n  }\n  if a and b { }\n  loop {\n    next\n  }\n  match (throw a) {\n    case _ -> a\n  }\n  recover a.b\n  recover {\n    a\n  }\n}\n",
+        b"fn f { while ( a := b ) { break }
+if ( a and b ) { }
+loop { next }
+match ( throw ( a ) ) { case _ -> ( a ) }
+recover ( a . b )
+recover { a } } ",
+        b"fn f {
+  while (a := b) {
+    break
+  }
+  if a and b { }
+  loop {
+    next
+  }
+  match (throw a) {
+    case _ -> a
+  }
+  recover a.b
+  recover {
+    a
+  }
+}
+",
     ),
     // What stands behind a closing brace.
     (
-        b"fn f { if a { b } else if c { } else { d }\nif a { b } else { c } . d + 1 } ",
-        b"fn f {\n  if a {\n    b\n  } else if c { } else {\n    d\n  }\n  if a {\n    b\n  } else {\n    c\n  }.d + 1\n}\n",
+        b"fn f { if a { b } else if c { } else { d }
+if a { b } else { c } . d + 1 } ",
+        b"fn f {
+  if a {
+    b
+  } else if c { } else {
+    d
+  }
+  if a {
+    b
+  } else {
+    c
+  }.d + 1
+}
+",
     ),
     // Patterns.
     (
         b"fn f { match x { case { @a = 1 , @b = mut c , } or Some ( _ , ) if a -> { } case ' ~hi ' -> ( 1 , 2 , 3 ) case ( { @a = b } , true ) -> return case None -> return ( a ) } } ",
-        b"fn f {\n  match x {\n    case { @a = 1, @b = mut c } or Some(_) if a -> { }\n    case 'hi' -> (1, 2, 3)\n    case ({ @a = b }, true) -> return\n    case None -> return a\n  }\n}\n",
+        b"fn f {
+  match x {
+    case { @a = 1, @b = mut c } or Some(_) if a -> { }
+    case 'hi' -> (1, 2, 3)
+    case ({ @a = b }, true) -> return
+    case None -> return a
+  }
+}
+",
     ),
     // Keywords that are names, arguments, arrays, and members by number.
     (
-        b"fn f { b . next ( 1 , ) . if\na ( )\n[ ]\n[ self , nil ]\nPoint ( x : 1 , y : self . x . 0 )\nColor . Red ( self )\n( a , b ) . 1\n\" \" } ",
-        b"fn f {\n  b.next(1).if\n  a()\n  []\n  [self, nil]\n  Point(x: 1, y: self.x.0)\n  Color.Red(self)\n  (a, b).1\n  \"\"\n}\n",
+        b"fn f { b . next ( 1 , ) . if
+a ( )
+[ ]
+[ self , nil ]
+Point ( x : 1 , y : self . x . 0 )
+Color . Red ( self )
+( a , b ) . 1
+\" \" } ",
+        b"fn f {
+  b.next(1).if
+  a()
+  []
+  [self, nil]
+  Point(x: 1, y: self.x.0)
+  Color.Red(self)
+  (a, b).1
+  \"\"
+}
+",
     ),
     // A block in a text and one in parentheses are printed over lines.
     (
         b"fn f { g ( ' ~a ${ if self { b } else { c } ~} ~d ' , recover { a } ) } ",
-        b"fn f {\n  g('a${if self {\n    b\n  } else {\n    c\n  }}d', recover {\n    a\n  })\n}\n",
+        b"fn f {
+  g('a${if self {
+    b
+  } else {
+    c
+  }}d', recover {
+    a
+  })
+}
+",
     ),
 ];
 
