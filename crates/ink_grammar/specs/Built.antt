@@ -28,6 +28,7 @@ onto ts (x ∷ xs) = onto (ts ++ grow ts x ∷ []) xs
 unfoldable pub trees : List Node → List Tree
 trees ns = onto [] ns
 
+-- a value with the tree of its node
 abbrev pub found_at : List Tree → Value → Found
 found_at ts v = record { tree = at ts v.node; start = v.start; is_place = v.is_place }
 

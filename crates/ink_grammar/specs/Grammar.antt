@@ -429,6 +429,7 @@ rules (part.Statement n) = statement_rules n
 rules (part.Operand n) = operand_rules n
 rules (part.Pattern n) = pattern_rules n
 
+-- which parts of imports, declarations and their members may be no token
 abbrev pub module_may_be_empty : ModulePart → Bool
 module_may_be_empty module_of.Module = true
 module_may_be_empty module_of.Imports = true
@@ -450,6 +451,7 @@ module_may_be_empty module_of.TraitMethods = true
 module_may_be_empty module_of.TraitMethod = false
 module_may_be_empty module_of.ImplementedTrait = true
 
+-- which parts of methods may be no token
 abbrev pub method_may_be_empty : MethodPart → Bool
 method_may_be_empty method_of.OptionalPub = true
 method_may_be_empty method_of.OptionalAsync = true
@@ -464,6 +466,7 @@ method_may_be_empty method_of.ParametersRest = false
 method_may_be_empty method_of.Parameter = false
 method_may_be_empty method_of.MethodResult = true
 
+-- which parts of types may be no token
 abbrev pub type_may_be_empty : TypePart → Bool
 type_may_be_empty type_of.FullType = false
 type_may_be_empty type_of.BareType = false
@@ -481,6 +484,7 @@ type_may_be_empty type_of.ConstructorTypes = true
 type_may_be_empty type_of.ConstructorTypesRest = false
 type_may_be_empty type_of.ConstructorTypesMore = false
 
+-- which parts of blocks, statements and expressions may be no token
 abbrev pub statement_may_be_empty : StatementPart → Bool
 statement_may_be_empty statement_of.Block = false
 statement_may_be_empty statement_of.Statements = true
@@ -504,6 +508,7 @@ statement_may_be_empty statement_of.Arm = false
 statement_may_be_empty statement_of.Guard = true
 statement_may_be_empty statement_of.ArmValue = false
 
+-- which parts of operands may be no token
 abbrev pub operand_may_be_empty : OperandPart → Bool
 operand_may_be_empty operand_of.Operand = false
 operand_may_be_empty operand_of.UnnamedOperand = false
@@ -528,6 +533,7 @@ operand_may_be_empty operand_of.NamedOrNot = false
 operand_may_be_empty operand_of.NamedRest = false
 operand_may_be_empty operand_of.NamedMore = false
 
+-- which parts of patterns may be no token
 abbrev pub pattern_may_be_empty : PatternPart → Bool
 pattern_may_be_empty pattern_of.Pattern = false
 pattern_may_be_empty pattern_of.Alternative = false
@@ -550,33 +556,43 @@ may_be_empty (part.Statement n) = statement_may_be_empty n
 may_be_empty (part.Operand n) = operand_may_be_empty n
 may_be_empty (part.Pattern n) = pattern_may_be_empty n
 
+-- what may begin a literal, a text, brackets, or a form with its own word
 abbrev pub begins_primary : Shape → Bool
 begins_primary x = is wanted.Atom x || same shape.Quote x || same (shape.Mark mark.LeftParen) x || same (shape.Mark mark.LeftBracket) x || same (shape.Keyword keyword.If) x || same (shape.Keyword keyword.While) x || same (shape.Keyword keyword.Loop) x || same (shape.Keyword keyword.Match) x
 
+-- what may begin an operand that begins with no name
 abbrev pub begins_unnamed_operand : Shape → Bool
 begins_unnamed_operand x = is wanted.BorrowWord x || same (shape.Keyword keyword.Try) x || same (shape.Keyword keyword.Recover) x || same shape.Constant x || begins_primary x
 
+-- what may begin an expression that leaves where it stands
 abbrev pub begins_jump : Shape → Bool
 begins_jump x = same (shape.Keyword keyword.Return) x || same (shape.Keyword keyword.Throw) x || is wanted.LoopJump x
 
+-- what may begin an operand
 abbrev pub begins_operand : Shape → Bool
 begins_operand x = same shape.Name x || begins_unnamed_operand x
 
+-- what may begin an expression
 abbrev pub begins_expression : Shape → Bool
 begins_expression x = begins_jump x || begins_operand x
 
+-- what may begin an expression that begins with no name
 abbrev pub begins_unnamed_expression : Shape → Bool
 begins_unnamed_expression x = begins_jump x || begins_unnamed_operand x
 
+-- what may begin a statement
 abbrev pub begins_statement : Shape → Bool
 begins_statement x = same (shape.Keyword keyword.Let) x || begins_expression x
 
+-- what may begin a type
 abbrev pub begins_full_type : Shape → Bool
 begins_full_type x = is wanted.TypePrefix x || same shape.Constant x || same (shape.Mark mark.LeftParen) x
 
+-- what may begin one alternative of a pattern
 abbrev pub begins_alternative : Shape → Bool
 begins_alternative x = is wanted.PatternAtom x || same shape.Quote x || same (shape.Keyword keyword.Mut) x || same shape.Constant x || same (shape.Mark mark.LeftParen) x || same (shape.Mark mark.LeftBrace) x
 
+-- which tokens the parts of imports, declarations and their members may begin with
 abbrev pub module_begins : ModulePart → Shape → Bool → Bool
 module_begins module_of.Module x new_line = same (shape.Keyword keyword.Import) x || same (shape.Keyword keyword.Type) x || same (shape.Keyword keyword.Trait) x || same (shape.Keyword keyword.Impl) x || same (shape.Keyword keyword.Fn) x
 module_begins module_of.Imports x new_line = same (shape.Keyword keyword.Import) x
@@ -598,6 +614,7 @@ module_begins module_of.TraitMethods x new_line = same (shape.Keyword keyword.Fn
 module_begins module_of.TraitMethod x new_line = same (shape.Keyword keyword.Fn) x
 module_begins module_of.ImplementedTrait x new_line = same (shape.Keyword keyword.For) x
 
+-- which tokens the parts of methods may begin with
 abbrev pub method_begins : MethodPart → Shape → Bool → Bool
 method_begins method_of.OptionalPub x new_line = same (shape.Keyword keyword.Pub) x
 method_begins method_of.OptionalAsync x new_line = same (shape.Keyword keyword.Async) x
@@ -612,6 +629,7 @@ method_begins method_of.ParametersRest x new_line = same (shape.Mark mark.RightP
 method_begins method_of.Parameter x new_line = same shape.Name x
 method_begins method_of.MethodResult x new_line = same (shape.Mark mark.Arrow) x
 
+-- which tokens the parts of types may begin with
 abbrev pub type_begins : TypePart → Shape → Bool → Bool
 type_begins type_of.FullType x new_line = begins_full_type x
 type_begins type_of.BareType x new_line = same shape.Constant x || same (shape.Mark mark.LeftParen) x
@@ -629,6 +647,7 @@ type_begins type_of.ConstructorTypes x new_line = same (shape.Mark mark.LeftPare
 type_begins type_of.ConstructorTypesRest x new_line = same (shape.Mark mark.RightParen) x || same (shape.Mark mark.Comma) x
 type_begins type_of.ConstructorTypesMore x new_line = same (shape.Mark mark.RightParen) x || begins_full_type x
 
+-- which tokens the parts of blocks, statements and expressions may begin with
 abbrev pub statement_begins : StatementPart → Shape → Bool → Bool
 statement_begins statement_of.Block x new_line = same (shape.Mark mark.LeftBrace) x
 statement_begins statement_of.Statements x new_line = begins_statement x
@@ -652,6 +671,7 @@ statement_begins statement_of.Arm x new_line = same (shape.Keyword keyword.Case)
 statement_begins statement_of.Guard x new_line = same (shape.Keyword keyword.If) x
 statement_begins statement_of.ArmValue x new_line = same (shape.Mark mark.LeftBrace) x || begins_expression x
 
+-- which tokens the parts of operands may begin with
 abbrev pub operand_begins : OperandPart → Shape → Bool → Bool
 operand_begins operand_of.Operand x new_line = begins_operand x
 operand_begins operand_of.UnnamedOperand x new_line = begins_unnamed_operand x
@@ -676,6 +696,7 @@ operand_begins operand_of.NamedOrNot x new_line = same (shape.Mark mark.Colon) x
 operand_begins operand_of.NamedRest x new_line = same (shape.Mark mark.RightParen) x || same (shape.Mark mark.Comma) x
 operand_begins operand_of.NamedMore x new_line = same (shape.Mark mark.RightParen) x || same shape.Name x
 
+-- which tokens the parts of patterns may begin with
 abbrev pub pattern_begins : PatternPart → Shape → Bool → Bool
 pattern_begins pattern_of.Pattern x new_line = begins_alternative x
 pattern_begins pattern_of.Alternative x new_line = begins_alternative x

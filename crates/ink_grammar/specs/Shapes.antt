@@ -80,6 +80,7 @@ number shape.Closing = 9
 number (shape.Keyword k) = keyword_number k
 number (shape.Mark m) = mark_number m
 
+-- whether the two are one shape
 abbrev pub same : Shape → Shape → Bool
 same a b = number a == number b
 

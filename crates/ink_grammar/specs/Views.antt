@@ -9,6 +9,7 @@ use Rattle.ink_grammar.specs.Built.{at, trees, found_of}
 abbrev pub found : Builder → List Found
 found b = found_of (trees b.nodes.items) b.values.items
 
+-- the trees of the nodes so far
 abbrev pub trees_in : Builder → List Tree
 trees_in b = trees b.nodes.items
 

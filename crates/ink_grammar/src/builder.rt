@@ -35,6 +35,7 @@ impl Builder {
     ghost use Rattle.ink_grammar.specs.Tree as spec;
     ghost use Rattle.ink_grammar.specs.Built as built;
 
+    /// A builder that has read nothing.
     pub fn new(alloc: Global) -> Self
         ensures { view.found result ≡ [] }
     {

@@ -20,6 +20,7 @@ impl Model for Stack {
 }
 
 impl Stack {
+    /// A stack without symbols.
     pub fn new(alloc: Global) -> Self
         ensures { result ≡ [] }
     {
@@ -28,12 +29,14 @@ impl Stack {
         }
     }
 
+    /// Takes the next symbol, if there is one.
     pub fn pop(&mut self) -> Option<Symbol>
         ensures { MatchOption result ((self.old ≡ []) × (self.new ≡ [])) (λ s. self.old ≡ s ∷ self.new) }
     {
         self.items.pop()
     }
 
+    /// Puts a symbol on it.
     pub fn push(&mut self, symbol: Symbol) -> Result<(), AllocError>
         ensures { OnOk result (self.new ≡ symbol ∷ self.old) }
     {

@@ -203,6 +203,7 @@ pub enum Action {
     Five(FiveChildren),
 }
 
+/// One step of a production.
 #[derive(Clone, Copy)]
 pub enum Symbol {
     /// A token that stands so.

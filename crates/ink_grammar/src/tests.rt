@@ -9,6 +9,7 @@ use crate::shape::{
     STATIC, SWAP, TEXT_PART, THROW, TRAIT, TRUE, TRY, TYPE, UNDERSCORE, UNI, WHILE,
 };
 use crate::token::{Shape, Token};
+use crate::tree::{Node, ThreeChildren};
 use std::alloc::Global;
 
 /// What stands for a module that is parsed.
@@ -434,6 +435,40 @@ fn refuses_at_the_end(rt: HostRuntime) {
     assert_eq!(rt;
         refused(rt.alloc(), &[&[FN, NAME, LEFT_BRACE, RIGHT_BRACE, NAME]]),
         Ok(4)
+    );
+}
+
+/// The numbers of the left operands of `a + b + c` in a method, in the order of the chains, and then that of the module.
+fn left_operands(alloc: Global) -> Result<Vec<u32>, ParseError> {
+    let mut tokens = Vec::new(alloc);
+    push_line(&mut tokens, &[FN, NAME, LEFT_BRACE])?;
+    push_line(&mut tokens, &[NAME, PLUS, NAME, PLUS, NAME])?;
+    push_line(&mut tokens, &[RIGHT_BRACE])?;
+    let module = parse(alloc, &tokens)?;
+    let mut found = Vec::new(alloc);
+    for node in module.nodes() {
+        if let Node::Three(ThreeChildren::Binary, _, left, _, _) = node {
+            if found.push(*left).is_err() {
+                return Err(ParseError::OutOfMemory);
+            }
+        }
+    }
+    if found.push(module.root()).is_err() {
+        return Err(ParseError::OutOfMemory);
+    }
+    Ok(found)
+}
+
+#[test]
+fn associates_to_the_left(rt: HostRuntime) {
+    // Two empty lists, four nodes of the method's head, the brace and its list stand before `a`, and the first chain
+    // is made behind `a`, `+` and `b`. The module is the last of 22 nodes.
+    let found = left_operands(rt.alloc());
+    assert!(rt;
+        found.is_ok_and(|found| found.len() == 3
+            && found[0] == 8
+            && found[1] == 11
+            && found[2] == 21)
     );
 }
 

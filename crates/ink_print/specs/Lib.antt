@@ -1,0 +1,5 @@
+pub mod Table
+pub mod Surround
+pub mod Printed
+pub mod Work
+pub mod Layout
