@@ -55,6 +55,7 @@ fn a_process(
         heap,
         pending: Pending::new(alloc),
         ran: 0,
+        room: Vec::new(alloc),
     })
 }
 
