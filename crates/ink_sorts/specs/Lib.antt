@@ -1,0 +1,5 @@
+pub mod Written
+pub mod Sorts
+pub mod Nested
+pub mod Spells
+pub mod Alike
