@@ -1,0 +1,4 @@
+//! That the canonical print of a module is read as the same module.
+#![tactic(auto)]
+
+mod laws;
