@@ -1,0 +1,5 @@
+pub mod Shapes
+pub mod Levels
+pub mod Steps
+pub mod Fits
+pub mod Fitting
