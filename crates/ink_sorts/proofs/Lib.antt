@@ -3,3 +3,4 @@ pub mod Levels
 pub mod Steps
 pub mod Fits
 pub mod Fitting
+pub mod SampleLemmas

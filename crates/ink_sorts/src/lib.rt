@@ -5,6 +5,8 @@
 //! is said of them in the rooms above.
 #![tactic(auto)]
 
+pub mod sample;
 pub mod sorted;
 
+pub use sample::sample_module;
 pub use sorted::sorted_trees;
