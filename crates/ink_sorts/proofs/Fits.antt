@@ -30,6 +30,7 @@ pub record IsValue (source : List ℕ) (is_place : Bool) (tree : Tree) : Type 0 
   pub expression : IsA source Expression tree
   pub place : is_place ≡ true → IsA source Place tree
 
+-- imports, declarations and their members
 abbrev pub ModuleNeeds : List ℕ → ModulePart → List Found → Type 0
 ModuleNeeds source module_of.Imports own = IsA source (ListOf Import) (first own)
 ModuleNeeds source module_of.ImportPath own = IsA source (SomeOf (Word shape.Name)) (first own)
@@ -64,6 +65,7 @@ ModuleGives source module_of.TraitMethods v = IsA source (ListOf TraitMethod) v.
 ModuleGives source module_of.TraitMethod v = IsA source TraitMethod v.tree
 ModuleGives source module_of.ImplementedTrait v = IsA source (Maybe (Word shape.Constant)) v.tree
 
+-- methods
 abbrev pub MethodNeeds : List ℕ → MethodPart → List Found → Type 0
 MethodNeeds source method_of.OptionalPub own = first own ≡ Empty
 MethodNeeds source method_of.OptionalAsync own = IsA source PubWord (first own)
@@ -89,6 +91,7 @@ MethodGives source method_of.ParametersRest v = IsA source (ListOf Parameter) v.
 MethodGives source method_of.Parameter v = IsA source Parameter v.tree
 MethodGives source method_of.MethodResult v = IsA source (Maybe FullType) v.tree
 
+-- types
 abbrev pub TypeNeeds : List ℕ → TypePart → List Found → Type 0
 TypeNeeds source type_of.TupleTypeRest own = IsA source FullType (first own) × IsA source FullType (first (rest own)) × IsA source (Bracket (shape.Mark mark.LeftParen)) (first (rest (rest own)))
 TypeNeeds source type_of.TypeArgumentsRest own = IsA source (SomeOf FullType) (first own)
@@ -117,6 +120,7 @@ TypeGives source type_of.ConstructorTypes v = IsA source (Maybe (SomeOf FullType
 TypeGives source type_of.ConstructorTypesRest v = IsA source (SomeOf FullType) v.tree
 TypeGives source type_of.ConstructorTypesMore v = IsA source (SomeOf FullType) v.tree
 
+-- blocks, statements and expressions
 abbrev pub StatementNeeds : List ℕ → StatementPart → List Found → Type 0
 StatementNeeds source statement_of.Statements own = IsA source (ListOf Statement) (first own)
 StatementNeeds source statement_of.MoreStatements own = IsA source (ListOf Statement) (first own)
@@ -150,6 +154,7 @@ StatementGives source statement_of.Arm v = IsA source Arm v.tree
 StatementGives source statement_of.Guard v = IsA source (Maybe Counted) v.tree
 StatementGives source statement_of.ArmValue v = IsA source ArmValue v.tree
 
+-- operands
 abbrev pub OperandNeeds : List ℕ → OperandPart → List Found → Type 0
 OperandNeeds source operand_of.RecoverRest own = IsA source (Word (shape.Keyword keyword.Recover)) (first own)
 OperandNeeds source operand_of.NameRest own = IsA source (Word shape.Name) (first own)
@@ -195,6 +200,7 @@ OperandGives source operand_of.NamedRest v = IsA source (SomeOf Named) v.tree
 OperandGives source operand_of.NamedMore v = IsA source (SomeOf Named) v.tree
 OperandGives source _ v = Unit {0}
 
+-- patterns
 abbrev pub PatternNeeds : List ℕ → PatternPart → List Found → Type 0
 PatternNeeds source pattern_of.PatternRest own = IsA source Pattern (first own)
 PatternNeeds source pattern_of.ConstructorPatternRest own = IsA source (Word shape.Constant) (first own)

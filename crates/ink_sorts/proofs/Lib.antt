@@ -4,3 +4,4 @@ pub mod Steps
 pub mod Fits
 pub mod Fitting
 pub mod SampleLemmas
+pub mod PartLemmas

@@ -7,6 +7,8 @@
 
 pub mod sample;
 pub mod sorted;
+pub mod texts;
 
 pub use sample::sample_module;
 pub use sorted::sorted_trees;
+pub use texts::parts_apart;
