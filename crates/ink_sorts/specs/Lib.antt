@@ -3,3 +3,4 @@ pub mod Sorts
 pub mod Nested
 pub mod Spells
 pub mod Alike
+pub mod Sample

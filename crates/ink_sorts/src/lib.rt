@@ -5,17 +5,10 @@
 //! is said of them in the rooms above.
 #![tactic(auto)]
 
-ghost use Rattle.std.specs.Prelude.{◌≡◌, ℕ, Bool, true, false, List, [], ◌∷◌};
-ghost use Rattle.ink_grammar.specs.Tree.{Tree};
-ghost use Rattle.ink_grammar.specs.declared.token.Token.{Token};
-ghost use Rattle.ink_sorts.specs.Sorts.{Module, IsA};
-ghost use Rattle.ink_sorts.specs.Nested.{Nested, Outside};
-ghost use Rattle.ink_sorts.specs.Spells.{Spells};
-ghost use Rattle.ink_sorts.specs.Alike.{Alike};
+pub mod sample;
+pub mod sorted;
+pub mod texts;
 
-/// Scratch.
-pub fn scratch()
-    ensures one { (source : List ℕ) (tree : Tree) → IsA source Module tree → IsA source Module tree }
-    ensures two { (source : List ℕ) (ts : List Token) → Nested source (Outside ∷ []) ts (Outside ∷ []) → Nested source (Outside ∷ []) ts (Outside ∷ []) }
-    ensures three { (source : List ℕ) (a b : Tree) → Alike source source a b → Alike source source a b }
-{}
+pub use sample::sample_module;
+pub use sorted::sorted_trees;
+pub use texts::parts_apart;
