@@ -18,8 +18,8 @@ use Rattle.ink_grammar.specs.declared.token.Token.{Token}
 use Rattle.ink_shapes.specs.Shaped.{shaped, shape_by}
 use Rattle.ink_print.specs.Layout.{token_text}
 use Rattle.ink_sorts.specs.Nested as nested
-use Rattle.ink_round.specs.Opened.{IsOpen, outside, in_text, in_value, in_braces, in_inner_braces, NoPartBehind}
-use Rattle.ink_round.proofs.Onward.{IsRead, onward, gap-stops, found-within}
+use Rattle.ink_nests.specs.Opened.{IsOpen, outside, in_text, in_value, in_braces, in_inner_braces, NoPartBehind}
+use Rattle.ink_nests.proofs.Onward.{IsRead, onward, gap-stops, found-within}
 
 -- tokens behind tokens
 pub nested-then : {source : List ℕ} {a b c : List nested.Level} {ts us : List Token} → nested.Nested source a ts b → nested.Nested source b us c → nested.Nested source a (ts ++ us) c

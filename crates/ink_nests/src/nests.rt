@@ -1,4 +1,4 @@
-//! Laws on what is read and printed.
+//! The tokens of a source, and what they open and close.
 ghost use Rattle.std.specs.Prelude.{ℕ, List, [], ◌∷◌, map};
 ghost use Rattle.ink_base.specs.declared.token.Token.{Token};
 ghost use Rattle.ink_tokens.specs.Lexes.{AreTokens};

@@ -1,5 +1,5 @@
 pub mod Fronts
-pub mod Nests
+pub mod Spelled
 pub mod Parts
 pub mod ReadCases
 pub mod Onward

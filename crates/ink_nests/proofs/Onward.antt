@@ -25,12 +25,12 @@ use Rattle.ink_shapes.specs.Marks.{mark_of, is_written}
 use Rattle.ink_print.specs.Layout.{token_text}
 use Rattle.ink_sorts.specs.Written.{IsWorded, IsQuote, IsPartOf, quote_of}
 use Rattle.ink_sorts.specs.Nested as nested
-use Rattle.ink_round.specs.Opened.{IsOpen, outside, in_text, in_value, in_braces, in_inner_braces, NoPartBehind}
-use Rattle.ink_round.proofs.Fronts.{form-within}
-use Rattle.ink_round.proofs.Nests.{with_sign, Tells, spelled-tells}
-use Rattle.ink_round.proofs.Nests as tells
-use Rattle.ink_round.proofs.Parts.{part-within, part-stops, part-alone}
-use Rattle.ink_round.proofs.ReadCases.{CodeRead, quote, brace, form, TextRead, closes, opens, part, code-read, text-read, text-no_gap}
+use Rattle.ink_nests.specs.Opened.{IsOpen, outside, in_text, in_value, in_braces, in_inner_braces, NoPartBehind}
+use Rattle.ink_nests.proofs.Fronts.{form-within}
+use Rattle.ink_nests.proofs.Spelled.{with_sign, Tells, spelled-tells}
+use Rattle.ink_nests.proofs.Spelled as tells
+use Rattle.ink_nests.proofs.Parts.{part-within, part-stops, part-alone}
+use Rattle.ink_nests.proofs.ReadCases.{CodeRead, quote, brace, form, TextRead, closes, opens, part, code-read, text-read, text-no_gap}
 
 -- a token that was read at the front of these bytes, of so many of them
 pub record IsRead (source bytes : List ℕ) (read : Read) (t : Token) : Type 0 where

@@ -1,4 +1,0 @@
-//! That the canonical print of a module is read as the same module.
-#![tactic(auto)]
-
-mod laws;
