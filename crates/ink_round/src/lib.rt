@@ -1,0 +1,6 @@
+//! That the canonical print of a module is read as the same module.
+#![tactic(auto)]
+
+mod again;
+
+pub use again::print_reads_back;
