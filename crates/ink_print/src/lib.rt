@@ -22,4 +22,8 @@ mod work;
 
 pub use print::print_module;
 pub use printer::pieces;
-pub use step::{Piece, Sign};
+
+// The words of the definitions, for the laws of the rooms above.
+pub use class::Class;
+pub use place::{Place, Rank};
+pub use step::{Piece, Sign, Slot, Step};

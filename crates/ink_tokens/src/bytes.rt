@@ -5,7 +5,7 @@ ghost use Rattle.ink_tokens.specs.Bytes.{is_of, begins_name, is_quote, is_escape
 
 /// Bytes that a form runs over.
 #[derive(Clone, Copy)]
-pub(crate) enum Class {
+pub enum Class {
     /// Letters, digits and `_`.
     Word,
     /// Digits and `_`.

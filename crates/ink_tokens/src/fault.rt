@@ -10,9 +10,9 @@ use ink_text::place_of;
 
 /// A rule that a source breaks, and at which byte.
 #[derive(Clone, Copy)]
-pub(crate) struct Fault {
-    pub(crate) rule: Rule,
-    pub(crate) byte: u32,
+pub struct Fault {
+    pub rule: Rule,
+    pub byte: u32,
 }
 
 /// Whether the token is an integer that doesn't fit.

@@ -24,3 +24,8 @@ mod words;
 
 pub use lexing::tokens;
 pub use longest::longest_form;
+
+// The words of the definitions, for the laws of the rooms above.
+pub use bytes::Class;
+pub use fault::Fault;
+pub use reading::{Before, Change, Form, Found, Level, Read};

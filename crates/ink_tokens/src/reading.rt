@@ -4,7 +4,7 @@ use ink_base::TokenKind;
 
 /// Where a place is, by what is open there.
 #[derive(Clone, Copy)]
-pub(crate) enum Level {
+pub enum Level {
     /// In no text.
     Outside,
     /// In a text with this quote.
@@ -17,7 +17,7 @@ pub(crate) enum Level {
 
 /// What stands before a place, blanks and comments aside.
 #[derive(Clone, Copy)]
-pub(crate) enum Before {
+pub enum Before {
     /// No token.
     Start,
     /// A line feed, behind the last token.
@@ -30,7 +30,7 @@ pub(crate) enum Before {
 
 /// What a token does to the level.
 #[derive(Clone, Copy)]
-pub(crate) enum Change {
+pub enum Change {
     Stay,
     Enter(Level),
     Leave,
@@ -38,23 +38,23 @@ pub(crate) enum Change {
 
 /// A form at a place, and how many bytes it takes. One that takes none doesn't stand there.
 #[derive(Clone, Copy)]
-pub(crate) struct Form {
-    pub(crate) kind: TokenKind,
-    pub(crate) length: usize,
+pub struct Form {
+    pub kind: TokenKind,
+    pub length: usize,
 }
 
 /// A token at a place.
 #[derive(Clone, Copy)]
-pub(crate) struct Read {
-    pub(crate) kind: TokenKind,
-    pub(crate) length: usize,
-    pub(crate) change: Change,
-    pub(crate) before: Before,
+pub struct Read {
+    pub kind: TokenKind,
+    pub length: usize,
+    pub change: Change,
+    pub before: Before,
 }
 
 /// What stands at a place.
 #[derive(Clone, Copy)]
-pub(crate) enum Found {
+pub enum Found {
     /// A blank or a comment of so many bytes, and whether it is a line feed.
     Gap(usize, bool),
     Token(Read),
