@@ -16,7 +16,7 @@ use Rattle.ink_print.specs.declared.step.Sign.TheVariants as sign
 use Rattle.ink_print.specs.Layout.{class_of_shape, class_of_sign, class_of, is_spaced, blank, gap, depth_at, depth_behind, sign_text, token_text, piece_text, laid}
 use Rattle.ink_sorts.specs.Nested.{Level, Outside, Inside, Embedded, Braces, IsCode}
 use Rattle.ink_sorts.specs.Written.{IsWorded, IsQuote, IsPartOf, quote_of}
-use Rattle.ink_relex.specs.Follow.{is_word, Follow, nothing, ends_line, a_word, a_keyword, an_operator, a_name, a_sign, left_brace, right_brace, closes_braces, opens_text, closes_text, a_part, opens_value, closes_value}
+use Rattle.ink_relex.specs.Follow.{is_word, is_right_brace, Follow, nothing, ends_line, a_word, a_keyword, an_operator, a_name, a_sign, left_brace, right_brace, closes_braces, opens_text, closes_text, a_part, opens_value, closes_value}
 use Rattle.ink_relex.proofs.Leads.{extends}
 use Rattle.ink_relex.proofs.Steps.{Blanks, no_blank, blank_more}
 
@@ -124,15 +124,24 @@ stops source depth {c} solid code (closes_value next) = stops-sign solid sign.Te
 
 -- the class of what may stand before something in a text: no blank comes behind it there
 abbrev pub IsTight : Class → Type 0
-IsTight c = (c ≡ class.Word) ⊎ (c ≡ class.Closing)
+IsTight c = ((depth : ℕ) → gap depth c class.Word ≡ []) × ((depth : ℕ) → gap depth c class.Opening ≡ [])
 
 pub tight-word : (c : Class) (depth : ℕ) → IsTight c → gap depth c class.Word ≡ []
-tight-word c depth (inl is) = ap (λ c. gap depth c class.Word) is
-tight-word c depth (inr is) = ap (λ c. gap depth c class.Word) is
+tight-word c depth tight = tight.0 depth
 
 pub tight-opening : (c : Class) (depth : ℕ) → IsTight c → gap depth c class.Opening ≡ []
-tight-opening c depth (inl is) = ap (λ c. gap depth c class.Opening) is
-tight-opening c depth (inr is) = ap (λ c. gap depth c class.Opening) is
+tight-opening c depth tight = tight.1 depth
+
+pub word-tight : IsTight class.Word
+word-tight = (λ depth. refl, λ depth. refl)
+
+pub closing-tight : IsTight class.Closing
+closing-tight = (λ depth. refl, λ depth. refl)
+
+pub brace-tight : (s : Sign) → is_right_brace s ≡ true → IsTight (class_of_sign s)
+brace-tight sign.BlockClosing is = (λ depth. refl, λ depth. refl)
+brace-tight sign.PatternClosing is = (λ depth. refl, λ depth. refl)
+brace-tight s is = let none : false ≡ true = is in cc
 
 -- behind a part stands its quote or a `${`
 pub part-stops : (source : List ℕ) (depth : ℕ) (c : Class) {free : Bool} {quote : Token} {ls : List Level} {ps : List Piece} → IsTight c →

@@ -9,3 +9,5 @@ pub mod AdvanceParts
 pub mod SignFacts
 pub mod Laid
 pub mod Pieces
+pub mod Braces
+pub mod Lexing

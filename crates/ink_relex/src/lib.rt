@@ -1,13 +1,9 @@
-//! That the print of a module has the tokens of its pieces.
+//! That what is printed is read as the tokens that were printed: pieces that may follow one another, laid out with their
+//! blanks and lines, are scanned as just these pieces.
+//!
+//! Only the definitions of the layout and of a scanner are spoken of. Which pieces a tree is printed as is not known here.
 #![tactic(auto)]
 
-ghost use Rattle.std.specs.Prelude.{◌≡◌, ℕ, Bool, true, false, List, [], ◌∷◌};
-ghost use Rattle.ink_print.specs.declared.step.Piece.{Piece};
-ghost use Rattle.ink_sorts.specs.Nested.{Outside};
-ghost use Rattle.ink_relex.specs.Follow.{Follow, is_begun};
+mod lexes;
 
-/// Scratch.
-pub fn scratch()
-    ensures one { (source : List ℕ) (ps : List Piece) → Follow source (Outside ∷ []) true ps → Follow source (Outside ∷ []) true ps }
-    ensures two { (source : List ℕ) (ps : List Piece) → Follow source (Outside ∷ []) true ps → Follow source (Outside ∷ []) true ps }
-{}
+pub use lexes::pieces_lex;
