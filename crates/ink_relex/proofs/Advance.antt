@@ -1,13 +1,12 @@
 -- How a scanner passes one token of a print.
-use Rattle.std.proofs.Common.{◌≡◌, ◌≢◌, ℕ, zero, suc, ◌+◌, ◌-◌, ◌<◌, ◌≤◌, Bool, true, false, cond, not, ◌&&◌, ◌||◌, ◌==◌, List, [], ◌∷◌, ◌++◌, map, length, refl, arith, sym, ap, ◌∙◌, subst, ⊎_elim, inl, inr, ◌⊎◌, eq-eqb, le-leb, nat_le, Option, None, Some}
-use Rattle.std.specs.Prelude.{slice_index, slice_range, nat_lt}
+use Rattle.std.proofs.Common.{◌≡◌, ℕ, ◌+◌, ◌<◌, ◌≤◌, Bool, true, false, cond, ◌&&◌, ◌==◌, List, [], ◌∷◌, ◌++◌, map, length, refl, arith, sym, ap, ◌∙◌, subst, eq-eqb, le-leb, nat_le, None, Some}
+use Rattle.std.specs.Prelude.{slice_index, slice_range}
 use Rattle.std.proofs.lemmas.Bool.Decides.{nat_tests}
 use Rattle.ink_base.specs.declared.token.TokenKind.{TokenKind}
-use Rattle.ink_base.specs.declared.token.TokenKind.TheVariants as kind
 use Rattle.ink_base.specs.declared.token.Token as scanned
 use Rattle.ink_tokens.specs.declared.reading.Before.{Before}
 use Rattle.ink_tokens.specs.declared.reading.Before.TheVariants.{Operand, Other}
-use Rattle.ink_tokens.specs.declared.reading.Change.TheVariants.{Stay, Enter, Leave}
+use Rattle.ink_tokens.specs.declared.reading.Change.TheVariants.{Enter}
 use Rattle.ink_tokens.specs.declared.reading.Found.TheVariants as found
 use Rattle.ink_tokens.specs.declared.reading.Level as scan_level
 use Rattle.ink_tokens.specs.declared.reading.Level.TheVariants as level
@@ -15,10 +14,9 @@ use Rattle.ink_tokens.specs.declared.reading.Read.{Read}
 use Rattle.ink_tokens.specs.Bytes.{is_quote}
 use Rattle.ink_tokens.specs.Gap.{is_blank, separator_length}
 use Rattle.ink_tokens.specs.Fault.{is_wide_integer}
-use Rattle.ink_tokens.specs.Found.{found_at, code_found, text_found, token_found, mark_at, brace_at, may_be_signed, before_behind, opening_quote, closing_quote, opened_brace, closed_brace, closing, opening, part_of}
-use Rattle.ink_tokens.specs.Nest.{Nest, changed, left, entered}
-use Rattle.ink_tokens.specs.Part.{begins_opening, part_length}
-use Rattle.ink_tokens.specs.Scan.{begins_line, token_at}
+use Rattle.ink_tokens.specs.Found.{found_at, code_found, text_found, token_found, mark_at, may_be_signed, before_behind, opening_quote, closing_quote}
+use Rattle.ink_tokens.specs.Nest.{Nest, changed, left}
+use Rattle.ink_tokens.specs.Scan.{begins_line}
 use Rattle.ink_tokens.specs.Lexes.{Lexes}
 use Rattle.ink_tokens.specs.Spelling.{IsSpelled}
 use Rattle.ink_shapes.specs.Shaped.{shape_by, shaped}
@@ -26,9 +24,9 @@ use Rattle.ink_grammar.specs.declared.token.Shape.{Shape}
 use Rattle.ink_grammar.specs.declared.token.Shape.TheVariants as shape
 use Rattle.ink_grammar.specs.declared.token.Token.{Token}
 use Rattle.ink_print.specs.Layout.{token_text}
-use Rattle.ink_sorts.specs.Nested.{Level, Outside, Inside, Embedded, Braces, IsCode}
-use Rattle.ink_relex.proofs.Found.{IsLast, token-found, separator-none, mark-none, read_of}
-use Rattle.ink_relex.proofs.Steps.{At, moved, range-at, before-some, level_of, state, found-code, token_of, token-step}
+use Rattle.ink_sorts.specs.Nested.{Level, Inside, IsCode}
+use Rattle.ink_relex.proofs.Found.{IsLast, token-found, separator-none, read_of}
+use Rattle.ink_relex.proofs.Steps.{At, moved, range-at, level_of, state, found-code, token_of, token-step}
 
 -- what is open, as a scanner has it
 abbrev pub nests : List ℕ → List Level → ℕ → Nest
@@ -75,7 +73,7 @@ advance source print l ls levels opened behind at b new_line ts text rest x read
       place = at + length text;
       opened = behind;
       lexes = subst (λ n. Lexes print (state (at + length text) read.before n (ts ++ token_of at b read.kind (length text) ∷ []))) nest
-      (token-step print at b (nests source (l ∷ ls) opened) ts text rest read lexes here some size narrow is);
+          (token-step print at b (nests source (l ∷ ls) opened) ts text rest read lexes here some size narrow is);
       here = next;
     }
 

@@ -1,38 +1,30 @@
 -- How a scanner passes braces, and the parts of a text.
-use Rattle.std.proofs.Common.{◌≡◌, ◌≢◌, ℕ, zero, suc, ◌+◌, ◌-◌, ◌<◌, ◌≤◌, Bool, true, false, cond, not, ◌&&◌, ◌||◌, ◌==◌, List, [], ◌∷◌, ◌++◌, map, length, refl, arith, sym, ap, ◌∙◌, subst, ⊎_elim, inl, inr, ◌⊎◌, eq-eqb, eqb-true, le-leb, nat_le, Option, None, Some}
-use Rattle.std.specs.Prelude.{slice_index, slice_range, nat_lt}
+use Rattle.std.proofs.Common.{◌≡◌, ℕ, suc, ◌+◌, ◌<◌, Bool, true, false, cond, ◌&&◌, ◌||◌, ◌==◌, List, [], ◌∷◌, ◌++◌, length, refl, arith, ap, ◌∙◌, inl, inr, ◌⊎◌, eq-eqb, eqb-true}
+use Rattle.std.specs.Prelude.{slice_index}
 use Rattle.std.proofs.lemmas.Bool.Decides.{nat_tests}
-use Rattle.ink_base.specs.declared.token.TokenKind.{TokenKind}
 use Rattle.ink_base.specs.declared.token.TokenKind.TheVariants as kind
 use Rattle.ink_base.specs.declared.token.Token as scanned
 use Rattle.ink_tokens.specs.declared.reading.Before.{Before}
 use Rattle.ink_tokens.specs.declared.reading.Before.TheVariants.{Operand, Other}
-use Rattle.ink_tokens.specs.declared.reading.Change.TheVariants.{Stay, Enter, Leave}
 use Rattle.ink_tokens.specs.declared.reading.Found.TheVariants as found
-use Rattle.ink_tokens.specs.declared.reading.Level as scan_level
 use Rattle.ink_tokens.specs.declared.reading.Level.TheVariants as level
-use Rattle.ink_tokens.specs.declared.reading.Read.{Read}
 use Rattle.ink_tokens.specs.Bytes.{is_quote}
-use Rattle.ink_tokens.specs.Gap.{is_blank, separator_length}
+use Rattle.ink_tokens.specs.Gap.{separator_length}
 use Rattle.ink_tokens.specs.Fault.{is_wide_integer}
-use Rattle.ink_tokens.specs.Found.{found_at, code_found, text_found, token_found, mark_at, brace_at, may_be_signed, before_behind, opening_quote, closing_quote, opened_brace, closed_brace, closing, opening, part_of}
-use Rattle.ink_tokens.specs.Nest.{Nest, changed, left, entered, opened_behind}
+use Rattle.ink_tokens.specs.Found.{found_at, text_found, mark_at, brace_at, opened_brace, closed_brace, closing, opening, part_of}
+use Rattle.ink_tokens.specs.Nest.{changed, opened_behind}
 use Rattle.ink_tokens.specs.Part.{begins_opening, part_length}
 use Rattle.ink_tokens.specs.Bytes.{is_escaped}
-use Rattle.ink_tokens.specs.Scan.{begins_line, token_at}
+use Rattle.ink_tokens.specs.Scan.{begins_line}
 use Rattle.ink_tokens.specs.Lexes.{Lexes}
-use Rattle.ink_tokens.specs.Spelling.{IsSpelled}
-use Rattle.ink_shapes.specs.Shaped.{shape_by, shaped}
-use Rattle.ink_grammar.specs.declared.token.Shape.{Shape}
+use Rattle.ink_shapes.specs.Shaped.{shape_by}
 use Rattle.ink_grammar.specs.declared.token.Shape.TheVariants as shape
 use Rattle.ink_grammar.specs.declared.token.Token.{Token}
-use Rattle.ink_print.specs.Layout.{token_text}
 use Rattle.ink_sorts.specs.Written.{quote_of}
-use Rattle.ink_sorts.specs.Nested.{Level, Outside, Inside, Embedded, Braces, IsCode}
-use Rattle.ink_relex.proofs.Found.{IsLast, token-found, separator-none, mark-none, read_of}
+use Rattle.ink_sorts.specs.Nested.{Level, Inside, Embedded, Braces}
 use Rattle.ink_relex.proofs.Leads.{both-one, both-other}
 use Rattle.ink_relex.proofs.Advance.{nests, left-nests, Advanced, advance, mark-found}
-use Rattle.ink_relex.proofs.Steps.{At, moved, range-at, before-some, level_of, state, found-code, token_of, token-step}
+use Rattle.ink_relex.proofs.Steps.{At, state}
 
 -- a `{` within a `${`
 pub advance-opened : (source print : List ℕ) (ls : List Level) (opened at : ℕ) (b : Before) (new_line : Bool) (ts : List scanned.Token) (rest : List ℕ) →

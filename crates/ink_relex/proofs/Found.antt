@@ -1,16 +1,14 @@
 -- What is found where a token's bytes stand.
-use Rattle.std.proofs.Common.{◌≡◌, ◌≢◌, ℕ, zero, suc, ◌+◌, ◌-◌, ◌<◌, ◌≤◌, Bool, true, false, cond, ◌&&◌, ◌||◌, ◌==◌, List, [], ◌∷◌, ◌++◌, length, take, drop, refl, arith, sym, ap, ◌∙◌, subst, ⊎_elim, inl, inr, ◌⊎◌, eq-eqb, eqb-true, get_or-take, length-append, length-take-le, Option, None, Some}
+use Rattle.std.proofs.Common.{◌≡◌, ℕ, zero, suc, ◌<◌, ◌≤◌, Bool, true, false, cond, ◌==◌, List, [], ◌∷◌, ◌++◌, length, take, refl, arith, sym, ap, ◌∙◌, subst, ⊎_elim, inl, inr, eq-eqb, get_or-take, length-append, length-take-le, None}
 use Rattle.std.specs.Prelude.{slice_index, nat_lt}
 use Rattle.std.proofs.Math.Seq.{take-append_seam}
 use Rattle.std.proofs.str.Laws.{order}
 use Rattle.std.proofs.lemmas.Bool.Decides.{nat_tests}
 use Rattle.std.specs.Char.{is_ascii_digit, is_ascii_uppercase}
 use Rattle.ink_base.specs.declared.token.TokenKind.{TokenKind}
-use Rattle.ink_base.specs.declared.token.TokenKind.TheVariants as kind
 use Rattle.ink_tokens.specs.declared.reading.Before.{Before}
 use Rattle.ink_tokens.specs.declared.reading.Change.TheVariants.{Stay}
 use Rattle.ink_tokens.specs.declared.reading.Form.{Form}
-use Rattle.ink_tokens.specs.declared.reading.Found.{Found}
 use Rattle.ink_tokens.specs.declared.reading.Found.TheVariants as found
 use Rattle.ink_tokens.specs.declared.reading.Level.{Level}
 use Rattle.ink_tokens.specs.declared.reading.Level.TheVariants as level
@@ -19,7 +17,7 @@ use Rattle.ink_tokens.specs.Bytes.{begins_name, is_quote}
 use Rattle.ink_tokens.specs.Gap.{is_blank, separator_length}
 use Rattle.ink_tokens.specs.Found.{form_at, form_found, token_found, code_found, mark_at, brace_at, may_be_signed, before_behind}
 use Rattle.ink_tokens.specs.Words.{is_pair}
-use Rattle.ink_tokens.specs.Spelling.{IsUnsigned, IsSpelled, spelled_name, spelled_const, spelled_field, spelled_integer, spelled_symbol}
+use Rattle.ink_tokens.specs.Spelling.{IsSpelled, spelled_name, spelled_const, spelled_field, spelled_integer, spelled_symbol}
 use Rattle.ink_tokens.proofs.FormLemmas.{form_at-spelled}
 use Rattle.ink_tokens.proofs.SpellingLemmas.{form_at-longest}
 use Rattle.ink_relex.proofs.Leads.{extends}

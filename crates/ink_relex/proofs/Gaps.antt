@@ -1,5 +1,5 @@
 -- The blanks between pieces, and what stands behind one that could go on.
-use Rattle.std.proofs.Common.{◌≡◌, ◌≢◌, ℕ, zero, suc, ◌+◌, ◌-◌, ◌*◌, ◌<◌, ◌≤◌, Bool, true, false, cond, not, ◌&&◌, ◌||◌, ◌==◌, List, [], ◌∷◌, ◌++◌, map, length, replicate, refl, arith, sym, ap, ◌∙◌, subst, ⊎_elim, inl, inr, ◌⊎◌, eq-eqb, eqb-true}
+use Rattle.std.proofs.Common.{◌≡◌, ℕ, zero, suc, ◌*◌, Bool, true, false, List, [], ◌∷◌, ◌++◌, replicate, refl, arith, ap, ◌∙◌, inl, inr, ◌⊎◌}
 use Rattle.std.specs.Prelude.{slice_index}
 use Rattle.std.proofs.lemmas.Bool.Decides.{nat_tests}
 use Rattle.ink_tokens.specs.Bytes.{is_quote}
@@ -10,12 +10,11 @@ use Rattle.ink_grammar.specs.declared.token.Token.{Token}
 use Rattle.ink_print.specs.declared.class.Class.{Class}
 use Rattle.ink_print.specs.declared.class.Class.TheVariants as class
 use Rattle.ink_print.specs.declared.step.Piece.{Piece}
-use Rattle.ink_print.specs.declared.step.Piece.TheVariants as piece
 use Rattle.ink_print.specs.declared.step.Sign.{Sign}
 use Rattle.ink_print.specs.declared.step.Sign.TheVariants as sign
-use Rattle.ink_print.specs.Layout.{class_of_shape, class_of_sign, class_of, is_spaced, blank, gap, depth_at, depth_behind, sign_text, token_text, piece_text, laid}
-use Rattle.ink_sorts.specs.Nested.{Level, Outside, Inside, Embedded, Braces, IsCode}
-use Rattle.ink_sorts.specs.Written.{IsWorded, IsQuote, IsPartOf, quote_of}
+use Rattle.ink_print.specs.Layout.{class_of_shape, class_of_sign, is_spaced, blank, gap, depth_at, depth_behind, sign_text, token_text, laid}
+use Rattle.ink_sorts.specs.Nested.{Level, Inside, IsCode}
+use Rattle.ink_sorts.specs.Written.{quote_of}
 use Rattle.ink_relex.specs.Follow.{is_word, is_right_brace, Follow, nothing, ends_line, a_word, a_keyword, an_operator, a_name, a_sign, left_brace, right_brace, closes_braces, opens_text, closes_text, a_part, opens_value, closes_value}
 use Rattle.ink_relex.proofs.Leads.{extends}
 use Rattle.ink_relex.proofs.Steps.{Blanks, no_blank, blank_more}
@@ -159,9 +158,9 @@ part-stops source depth c tight (opens_text code is quoted next) = absurd code
 part-stops source depth c tight (closes_text {t = t} {ps = ps} is quoted next) =
     let more = laid source ps (depth_behind (class_of_shape t.shape) (depth_at (class_of_shape t.shape) depth)) (class_of_shape t.shape) in
     inl (
-      ap (λ x. slice_index (gap (depth_at (class_of_shape x) depth) c (class_of_shape x) ++ (token_text source t ++ more)) 0) is
-      ∙ ap (λ blanks. slice_index (blanks ++ (token_text source t ++ more)) 0) (tight-word c depth tight)
-      ∙ ap (λ text. slice_index (text ++ more) 0) quoted.alone
+    ap (λ x. slice_index (gap (depth_at (class_of_shape x) depth) c (class_of_shape x) ++ (token_text source t ++ more)) 0) is
+    ∙ ap (λ blanks. slice_index (blanks ++ (token_text source t ++ more)) 0) (tight-word c depth tight)
+    ∙ ap (λ text. slice_index (text ++ more) 0) quoted.alone
     )
 part-stops source depth c tight (opens_value {ps = ps} of_quote next) =
     let more = laid source ps depth class.Opening in

@@ -1,20 +1,16 @@
 -- What bytes a token may begin with, and what bytes may stand within.
-use Rattle.std.proofs.Common.{◌≡◌, ◌≢◌, ℕ, zero, suc, ◌+◌, ◌-◌, ◌<◌, ◌≤◌, Bool, true, false, cond, ◌&&◌, ◌||◌, ◌==◌, List, [], ◌∷◌, length, take, drop, refl, arith, sym, ap, ◌∙◌, subst, ⊎_elim, inl, inr, ◌⊎◌, eq-eqb, eqb-true, get_or-take}
-use Rattle.std.specs.Prelude.{slice_index, codes}
-use Rattle.std.specs.List.{list_all, list_any}
+use Rattle.std.proofs.Common.{◌≡◌, ℕ, Bool, true, false, ◌&&◌, ◌||◌, ◌==◌, List, [], ◌∷◌, length, refl, arith, sym, subst, ⊎_elim, inl, inr, ◌⊎◌, eqb-true}
+use Rattle.std.specs.Prelude.{slice_index}
+use Rattle.std.specs.List.{list_any}
 use Rattle.std.specs.Str.{bytes_eq}
-use Rattle.std.specs.Int.{is_in_range}
-use Rattle.std.proofs.str.Laws.{order}
 use Rattle.std.proofs.lemmas.Bool.Decides.{nat_tests}
 use Rattle.std.proofs.lemmas.Slice.Eq.{bytes_eq-Decides}
-use Rattle.std.specs.Char.{is_ascii_digit, is_ascii_hexdigit, is_ascii_uppercase, is_ascii_lowercase}
-use Rattle.ink_base.specs.declared.token.TokenKind.{TokenKind}
-use Rattle.ink_base.specs.declared.token.TokenKind.TheVariants as kind
+use Rattle.std.specs.Char.{is_ascii_digit, is_ascii_uppercase}
 use Rattle.ink_tokens.specs.Bytes.{is_of, begins_name, is_quote}
 use Rattle.ink_tokens.specs.Gap.{is_blank}
-use Rattle.ink_tokens.specs.Words.{is_single, singles, is_pair, pairs, word_kind}
-use Rattle.ink_tokens.specs.Spelling.{IsName, IsConst, IsField, IsDecimal, IsHexadecimal, IsUnsigned, IsNameTail, IsSigned, IsInteger, IsSymbol, IsSpelled, spelled_name, spelled_const, spelled_field, spelled_integer, spelled_symbol}
-use Rattle.ink_tokens.specs.declared.bytes.Class.TheVariants.{Word, Decimal, Hexadecimal}
+use Rattle.ink_tokens.specs.Words.{is_single, singles, is_pair, pairs}
+use Rattle.ink_tokens.specs.Spelling.{IsSymbol}
+use Rattle.ink_tokens.specs.declared.bytes.Class.TheVariants.{Word}
 
 -- what holds of each of some bytes
 abbrev pub Each : (ℕ → Type 0) → List ℕ → Type 0

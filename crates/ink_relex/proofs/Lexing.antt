@@ -1,23 +1,14 @@
 -- Pieces that may follow one another have their tokens where they are laid out.
-use Rattle.std.proofs.Common.{◌≡◌, ◌≢◌, ℕ, zero, suc, ◌+◌, ◌-◌, ◌<◌, ◌≤◌, Bool, true, false, cond, not, ◌&&◌, ◌||◌, ◌==◌, List, [], ◌∷◌, ◌++◌, map, length, length-drop, drop, refl, arith, sym, ap, ◌∙◌, subst, ⊎_elim, inl, inr, ◌⊎◌, Option, None, Some, append_assoc, append-nil}
-use Rattle.std.specs.Prelude.{slice_index}
-use Rattle.ink_base.specs.declared.token.TokenKind.{TokenKind}
-use Rattle.ink_base.specs.declared.token.TokenKind.TheVariants as kind
+use Rattle.std.proofs.Common.{◌≡◌, ℕ, ◌+◌, Bool, true, false, not, List, [], ◌∷◌, ◌++◌, map, length, length-drop, refl, arith, sym, ap, ◌∙◌, subst, append-nil}
 use Rattle.ink_base.specs.declared.token.Token as scanned
 use Rattle.ink_tokens.specs.declared.reading.Before.{Before}
 use Rattle.ink_tokens.specs.declared.reading.Before.TheVariants as before
-use Rattle.ink_tokens.specs.Bytes.{is_quote}
-use Rattle.ink_tokens.specs.Fault.{is_wide_integer, end_fault}
-use Rattle.ink_tokens.specs.Found.{may_be_signed, before_behind, ends_operand, mark_at, brace_at}
-use Rattle.ink_tokens.specs.Gap.{is_blank, separator_length}
-use Rattle.ink_tokens.specs.Lexes.{Lexes, begins, Goes, Ends, Gives, Outcome, end_outcome, ComesTo, AreTokens}
-use Rattle.ink_tokens.specs.Scan.{Scan, begins_line, behind_line}
-use Rattle.ink_tokens.specs.Spelling.{IsSpelled, spelled_symbol}
-use Rattle.ink_tokens.specs.Words.{is_single, ends_bracket}
+use Rattle.ink_tokens.specs.Fault.{end_fault}
+use Rattle.ink_tokens.specs.Found.{may_be_signed, before_behind, ends_operand}
+use Rattle.ink_tokens.specs.Lexes.{begins, end_outcome, AreTokens}
+use Rattle.ink_tokens.specs.Scan.{begins_line, behind_line}
 use Rattle.ink_tokens.proofs.LexesLemmas.{step_at-end}
 use Rattle.ink_shapes.specs.Shaped.{shape_by, shaped}
-use Rattle.ink_grammar.specs.declared.token.Keyword.{Keyword}
-use Rattle.ink_grammar.specs.declared.token.Mark.{Mark}
 use Rattle.ink_grammar.specs.declared.token.Shape.{Shape}
 use Rattle.ink_grammar.specs.declared.token.Shape.TheVariants as shape
 use Rattle.ink_grammar.specs.declared.token.Token.{Token}
@@ -28,23 +19,20 @@ use Rattle.ink_print.specs.declared.step.Piece.{Piece}
 use Rattle.ink_print.specs.declared.step.Piece.TheVariants as piece
 use Rattle.ink_print.specs.declared.step.Sign.{Sign}
 use Rattle.ink_print.specs.declared.step.Sign.TheVariants as sign
-use Rattle.ink_print.specs.Layout.{class_of_shape, class_of_sign, class_of, gap, depth_at, depth_behind, sign_text, token_text, piece_text, laid}
+use Rattle.ink_print.specs.Layout.{class_of_shape, class_of_sign, gap, depth_at, depth_behind, sign_text, token_text, laid}
 use Rattle.ink_sorts.specs.Nested.{Level, Outside, Inside, Embedded, Braces, IsCode}
-use Rattle.ink_sorts.specs.Spells.{Spells, shape_of_sign} 
+use Rattle.ink_sorts.specs.Spells.{Spells, shape_of_sign}
 use Rattle.ink_sorts.specs.Spells as spells
-use Rattle.ink_sorts.specs.Written.{IsWorded, IsQuote, IsPartOf, quote_of}
-use Rattle.ink_relex.specs.Follow.{is_word, is_value, is_closing, is_plain, is_left_brace, is_right_brace, within, is_begun, Follow, nothing, ends_line, a_word, a_keyword, an_operator, a_name, a_sign, left_brace, right_brace, closes_braces, opens_text, closes_text, a_part, opens_value, closes_value}
-use Rattle.ink_relex.proofs.Advance.{nests, Advanced, advance-flat, advance-quote, advance-closing_quote, first-of}
-use Rattle.ink_relex.proofs.AdvanceParts.{advance-opened, advance-opened_again, advance-closed, advance-closing, advance-opening, advance-part}
-use Rattle.ink_relex.proofs.Found.{IsLast, IsLone, last-by_byte, last-lone, separator-none, mark-none}
-use Rattle.ink_relex.proofs.Gaps.{blanks-gap, Solid, stops, word, keyword, operator, IsTight, tight-word, tight-opening, word-tight, closing-tight, brace-tight, part-stops, word-class}
+use Rattle.ink_sorts.specs.Written.{quote_of}
+use Rattle.ink_relex.specs.Follow.{is_word, is_value, is_closing, is_right_brace, within, is_begun, Follow, nothing, ends_line, a_word, a_keyword, an_operator, a_name, a_sign, left_brace, right_brace, closes_braces, opens_text, closes_text, a_part, opens_value, closes_value}
+use Rattle.ink_relex.proofs.Advance.{nests, advance-closing_quote}
+use Rattle.ink_relex.proofs.AdvanceParts.{advance-opening, advance-part}
+use Rattle.ink_relex.proofs.Gaps.{word, keyword, operator, tight-word, tight-opening, word-tight, closing-tight, brace-tight, part-stops, word-class}
 use Rattle.ink_relex.proofs.Laid.{is_start, Fits, Here, Lexed, next, with-token, with-name, with-sign, never}
-use Rattle.ink_relex.proofs.Leads.{LeadFacts, symbol-facts}
-use Rattle.ink_relex.proofs.Pieces.{code-fits, flat-text, word-text, keyword-text_of, operator-text, sign-text_of}
-use Rattle.ink_relex.proofs.SignFacts.{SignFacts, sign-facts, LeftFacts, left-facts, RightFacts, right-facts, lone-left, lone-right}
-use Rattle.ink_relex.proofs.Steps.{At, level_of, state, nest_at, skip, Behind, feed, moved}
-use Rattle.ink_relex.proofs.TokenKinds.{spelled-some, spelled-lead, respelled, not_symbol, keyword-kind, keyword-signed, operator-kind, operator-lead, operator-signed, symbol-of}
-
+use Rattle.ink_relex.proofs.Pieces.{code-fits, word-text, keyword-text_of, operator-text, sign-text_of}
+use Rattle.ink_relex.proofs.SignFacts.{sign-facts, left-facts, right-facts}
+use Rattle.ink_relex.proofs.Steps.{At, state, feed, moved}
+use Rattle.ink_relex.proofs.TokenKinds.{not_symbol, keyword-kind, keyword-signed, operator-kind, operator-lead, operator-signed, symbol-of}
 use Rattle.ink_relex.proofs.Braces.{left-text, right-text, closed-text, closing-text, quote-text}
 
 -- the class and the shape of a token

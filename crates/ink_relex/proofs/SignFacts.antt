@@ -1,5 +1,5 @@
 -- The tokens of the signs.
-use Rattle.std.proofs.Common.{◌≡◌, ℕ, ◌<◌, Bool, true, false, not, ◌==◌, List, [], ◌∷◌, length, refl, arith, inl, inr, ◌⊎◌, Option, Some}
+use Rattle.std.proofs.Common.{◌≡◌, ℕ, ◌<◌, Bool, true, false, not, [], ◌∷◌, length, refl, arith, inl, inr, ◌⊎◌, Some}
 use Rattle.std.specs.Prelude.{slice_index}
 use Rattle.ink_base.specs.declared.token.TokenKind.{TokenKind}
 use Rattle.ink_base.specs.declared.token.TokenKind.TheVariants as kind

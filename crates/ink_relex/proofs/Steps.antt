@@ -1,28 +1,22 @@
 -- The steps of a scanner over the bytes of a print.
-use Rattle.std.proofs.Common.{◌≡◌, ◌≢◌, ℕ, zero, suc, ◌+◌, ◌-◌, ◌<◌, ◌≤◌, Bool, true, false, cond, ◌&&◌, ◌||◌, ◌==◌, List, [], ◌∷◌, ◌++◌, map, length, take, drop, refl, arith, sym, ap, ◌∙◌, subst, ⊎_elim, inl, inr, ◌⊎◌, eq-eqb, eqb-true, length-append, length-drop, Option, None, Some, append_assoc}
-use Rattle.std.specs.Prelude.{slice_index, slice_range, nat_lt}
+use Rattle.std.proofs.Common.{◌≡◌, ℕ, ◌+◌, ◌-◌, ◌<◌, ◌≤◌, Bool, true, false, cond, List, [], ◌∷◌, ◌++◌, map, length, take, drop, refl, arith, sym, ap, ◌∙◌, length-append, length-drop, Option, None, Some}
+use Rattle.std.specs.Prelude.{slice_range}
 use Rattle.std.proofs.Math.Seq.{take-append_seam, drop-append_seam}
 use Rattle.std.proofs.lemmas.List.{drop-drop}
-use Rattle.std.proofs.str.Laws.{order}
 use Rattle.ink_base.specs.declared.token.TokenKind.{TokenKind}
-use Rattle.ink_base.specs.declared.token.TokenKind.TheVariants as kind
 use Rattle.ink_base.specs.declared.token.Token as scanned
 use Rattle.ink_tokens.specs.declared.reading.Before.{Before}
-use Rattle.ink_tokens.specs.declared.reading.Before.TheVariants as before
-use Rattle.ink_tokens.specs.declared.reading.Change.TheVariants.{Stay, Enter, Leave}
-use Rattle.ink_tokens.specs.declared.reading.Found.{Found}
 use Rattle.ink_tokens.specs.declared.reading.Found.TheVariants as found
 use Rattle.ink_tokens.specs.declared.reading.Level as scan_level
 use Rattle.ink_tokens.specs.declared.reading.Level.TheVariants as level
 use Rattle.ink_tokens.specs.declared.reading.Read.{Read}
 use Rattle.ink_tokens.specs.Fault.{wide_behind, is_wide_integer}
-use Rattle.ink_tokens.specs.Gap.{is_blank, separator_length}
+use Rattle.ink_tokens.specs.Gap.{separator_length}
 use Rattle.ink_tokens.specs.Found.{found_at, code_found}
 use Rattle.ink_tokens.specs.Nest.{Nest, changed}
-use Rattle.ink_tokens.specs.Scan.{Scan, begins_line, behind_line, gap_behind, token_at}
-use Rattle.ink_tokens.specs.Lexes.{Step, Goes, step_by, step_at, Lexes, goes}
+use Rattle.ink_tokens.specs.Scan.{Scan, begins_line, behind_line, gap_behind}
+use Rattle.ink_tokens.specs.Lexes.{Goes, step_by, Lexes, goes}
 use Rattle.ink_tokens.proofs.LexesLemmas.{step_at-inside}
-use Rattle.ink_grammar.specs.declared.token.Token.{Token}
 use Rattle.ink_sorts.specs.Nested.{Level, Outside, Inside, Embedded, Braces, IsCode}
 use Rattle.ink_sorts.specs.Written.{quote_of}
 

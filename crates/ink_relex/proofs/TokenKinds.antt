@@ -1,16 +1,13 @@
 -- What a token's shape says of its kind and of its first byte.
-use Rattle.std.proofs.Common.{◌≡◌, ◌≢◌, ℕ, zero, suc, ◌<◌, ◌≤◌, Bool, true, false, cond, not, ◌&&◌, ◌||◌, ◌==◌, List, [], ◌∷◌, length, refl, arith, sym, ap, ◌∙◌, subst, ⊎_elim, inl, inr, ◌⊎◌, Option, None, Some}
+use Rattle.std.proofs.Common.{◌≡◌, ◌≢◌, ℕ, ◌<◌, Bool, true, false, cond, not, ◌==◌, List, [], ◌∷◌, length, refl, arith, sym, ap, ◌∙◌, subst, inl, inr, Option, None, Some}
 use Rattle.std.specs.Prelude.{slice_index, codes}
 use Rattle.std.specs.List.{find, list_any}
 use Rattle.std.specs.Str.{bytes_eq}
-use Rattle.std.specs.Char.{is_ascii_digit, is_ascii_uppercase}
 use Rattle.ink_base.specs.declared.token.TokenKind.{TokenKind}
 use Rattle.ink_base.specs.declared.token.TokenKind.TheVariants as kind
-use Rattle.ink_tokens.specs.Bytes.{begins_name, is_quote}
-use Rattle.ink_tokens.specs.Gap.{is_blank}
 use Rattle.ink_tokens.specs.declared.reading.Before.TheVariants.{Operand, Other}
 use Rattle.ink_tokens.specs.Found.{may_be_signed, before_behind, ends_operand}
-use Rattle.ink_tokens.specs.Words.{singles, pairs, word_kind, is_keyword, is_value_word, ends_bracket}
+use Rattle.ink_tokens.specs.Words.{word_kind, is_keyword, is_value_word, ends_bracket}
 use Rattle.ink_tokens.specs.Spelling.{IsSymbol, IsSpelled, spelled_name, spelled_const, spelled_field, spelled_integer, spelled_symbol}
 use Rattle.ink_shapes.specs.Keywords.{text, keyword_of, keywords}
 use Rattle.ink_shapes.specs.Marks.{mark_of, is_written}
@@ -21,7 +18,6 @@ use Rattle.ink_grammar.specs.declared.token.Mark.{Mark}
 use Rattle.ink_grammar.specs.declared.token.Mark.TheVariants as mark
 use Rattle.ink_grammar.specs.declared.token.Shape.{Shape}
 use Rattle.ink_grammar.specs.declared.token.Shape.TheVariants as shape
-use Rattle.ink_print.specs.declared.class.Class.{Class}
 use Rattle.ink_print.specs.declared.class.Class.TheVariants as class
 use Rattle.ink_print.specs.Layout.{class_of_shape}
 use Rattle.ink_relex.specs.Follow.{is_value}
