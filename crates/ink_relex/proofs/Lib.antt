@@ -1,0 +1,13 @@
+pub mod Leads
+pub mod Forms
+pub mod Found
+pub mod Steps
+pub mod Gaps
+pub mod TokenKinds
+pub mod Advance
+pub mod AdvanceParts
+pub mod SignFacts
+pub mod Laid
+pub mod Pieces
+pub mod Braces
+pub mod Lexing
