@@ -5,3 +5,8 @@ pub mod Types
 pub mod Places
 pub mod Chains
 pub mod Calls
+pub mod Patterns
+pub mod Primaries
+pub mod Statements
+pub mod Arms
+pub mod Methods

@@ -40,6 +40,10 @@ pub record ReadAs (source print : List ℕ) (K : List Token → Found → Type 0
   pub kind : K us value
   pub alike : Alike source print a value.tree
 
+-- how a tree is read where each expression may stand, and each pattern, type and declaration
+abbrev pub Reading : List ℕ → List ℕ → (List Token → Found → Type 0) → Tree → Type 0
+Reading source print K a = (line end : Bool) (us : List Token) → Spells source print line (printed a place.Expression) us end → ReadAs source print K a us
+
 -- an item and the rest of its list, behind the items so far
 pub data Items (P : Bool → List Token → Found → Type 0) (Rest : Found → List Token → Found → Type 0) (line : Bool) (a : Found) : List Token → Found → Type 0 where
   item : {u w : List Token} {v x : Found} → P line u v → Rest (node_two two_of.More a v) w x → Items P Rest line a (u ++ w) x
@@ -215,3 +219,17 @@ module _ {source print : List ℕ} {G : Tree → Type 0} {P : Bool → List Toke
     unfolding printed
     body_of_each stay k f no_item h = read_empty k h
     body_of_each stay k f (one_more {s = s} {a = a} {b = b} e g) h = widened f (body_more stay e g (step_two two_of.More s a b place.Body h))
+
+    -- the items of a module
+    line_more : {line end : Bool} {k : ℕ} {a b : Tree} {us : List Token} → (stay : (v : Found) → Rest v [] v) → Each G a → G b
+        → Stepped source print (two_children a b) line (first_as place.Lines ∷ second ∷ step.Sign sign.Line ∷ []) us end → ReadAs source print (Items P Rest line no_items) (Two two_of.More k a b) us
+    line_more stay e g (next {us = us} h (next {us = ws} m (new_line stop))) = let l = lines e h in let r = read _ _ _ _ g m in
+        record { value = node_two two_of.More l.value r.value; alike = alike.two l.alike r.alike;
+          kind = l.goes (ws ++ []) (node_two two_of.More l.value r.value) (item r.kind (stay _)) }
+    line_more stay e g (next h (next m (put n f stop))) = let bad : None ≡ Some _ = f in cc
+
+    pub lines_of_each : {K : List Token → Found → Type 0} {line end : Bool} {a : Tree} {us : List Token} → ((v : Found) → Rest v [] v) → K [] no_items → ((line : Bool) (u : List Token) (v : Found) → Items P Rest line no_items u v → K u v)
+        → Each G a → Spells source print line (printed a place.Lines) us end → ReadAs source print K a us
+    unfolding printed
+    lines_of_each stay k f no_item h = read_empty k h
+    lines_of_each {line = line} stay k f (one_more {s = s} {a = a} {b = b} e g) h = widened (f line) (line_more stay e g (step_two two_of.More s a b place.Lines h))

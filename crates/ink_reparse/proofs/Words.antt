@@ -12,8 +12,9 @@ use Rattle.ink_grammar.specs.Tree.{Tree, Leaf, Found, leaf}
 use Rattle.ink_print.specs.declared.place.Place.{Place}
 use Rattle.ink_print.specs.declared.place.Place.TheVariants as place
 use Rattle.ink_print.specs.declared.place.Rank.TheVariants as rank
+use Rattle.ink_print.specs.declared.step.Piece.TheVariants as piece
 use Rattle.ink_print.specs.Surround.{rank_of_shape}
-use Rattle.ink_print.specs.Printed.{printed}
+use Rattle.ink_print.specs.Printed.{around, printed}
 use Rattle.ink_sorts.specs.Spells.{Spells, nothing, token, name, IsSameToken}
 use Rattle.ink_sorts.specs.Alike.{Alike, is_bracket}
 use Rattle.ink_sorts.specs.Alike as alike
@@ -66,3 +67,8 @@ rank_of_jump _ h = let bad : false ≡ true = h in cc
 -- brackets are alike, whatever their text
 pub bracket_alike : {source print : List ℕ} {x : Shape} {a : Tree} {u : Token} → Kept (λ y. y ≡ x) a → is_bracket x ≡ true → Some x ≡ Some u.shape → Alike source print a (Leaf u)
 bracket_alike (kept q) e f = alike.bracket (subst (λ z. is_bracket z ≡ true) (sym q) e) (sym (some_same f) ∙ sym q)
+
+-- a part of a text stands in no `${`
+pub part_read : {source print : List ℕ} {line end : Bool} {a : Tree} {us : List Token} → Kept (λ y. y ≡ shape.TextPart) a → Spells source print line (printed a place.TextItem) us end → TokenAt source print (λ y. y ≡ shape.TextPart) line a us end
+unfolding printed
+part_read {source = source} {print = print} {line = line} {end = end} {us = us} (kept {t = t} q) h = word_read (kept q) (subst (λ r. Spells source print line (around place.TextItem r (piece.Token t ∷ [])) us end) (ap rank_of_shape q) h)

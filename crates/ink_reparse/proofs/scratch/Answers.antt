@@ -1,3 +1,8 @@
+use Rattle.ink_reparse.proofs.Methods.{trait_method_form}
+use Rattle.ink_reparse.proofs.Arms.{match_form}
+use Rattle.ink_reparse.proofs.Primaries.{array_form}
+use Rattle.ink_reparse.proofs.Statements.{loop_form}
+use Rattle.ink_reparse.proofs.Patterns.{pattern_text_form}
 use Rattle.ink_reparse.proofs.Calls.{construction_form}
 use Rattle.ink_reparse.proofs.Chains.{recover_form}
 use Rattle.ink_reparse.proofs.Places.{parenthesised}
