@@ -10,3 +10,5 @@ pub mod Primaries
 pub mod Statements
 pub mod Arms
 pub mod Methods
+pub mod Declarations
+pub mod Rereads
