@@ -1,5 +1,5 @@
 -- Calls, constructions and links.
-use Rattle.std.proofs.Common.{◌≡◌, ◌⊎◌, ℕ, Bool, true, false, not, List, [], ◌∷◌, ◌++◌, Some, refl, sym, ap, subst, ◌∙◌}
+use Rattle.std.proofs.Common.{◌≡◌, ℕ, Bool, true, false, not, List, [], ◌∷◌, ◌++◌, Some, refl, sym, ap, subst, ◌∙◌}
 use Rattle.std.proofs.lemmas.List.{append_assoc}
 use Rattle.ink_grammar.specs.declared.token.Mark.TheVariants as mark
 use Rattle.ink_grammar.specs.declared.token.Shape.{Shape}
@@ -125,9 +125,13 @@ named_arguments_form g line end us h = widened (λ u v k t e. first_named (k (t 
 called_of : {source print : List ℕ} {line mid : Bool} {s : ℕ} {a b : Tree} {us ws : List Token} (t u : Token) → TokenAt source print (λ y. y ≡ shape.Name) line a us mid → t.new_line ≡ mid → Some (shape.Mark mark.LeftParen) ≡ Some t.shape
     → ReadAs source print (Closes Arguments (shape.Mark mark.RightParen)) b ws → Some (shape.Mark mark.RightParen) ≡ Some u.shape → At source print Linkable (Two two_of.Call s a b) line false (us ++ (t ∷ (ws ++ (u ∷ []))))
 called_of {ws = ws} t u (token_at {u = c} m h e) n f r g =
-    record { value = node_two two_of.Call (leaf c) r.value;
+    record {
+      value = node_two two_of.Call (leaf c) r.value;
       kind = λ w x l. is_operand_1 c (t ∷ (ws ++ (u ∷ []))) (node_two two_of.Call (leaf c) r.value) w x (has e) (is_name_rest_1 t _ _ (ap not n) (has_sign f) (r.kind u (has_sign g))) l;
-      alike = alike.two (alike.token h) r.alike; headed = m; ended = refl }
+      alike = alike.two (alike.token h) r.alike;
+      headed = m;
+      ended = refl;
+    }
 
 called : {source print : List ℕ} {line end : Bool} {s : ℕ} {a b : Tree} {us : List Token} → Kept (λ y. y ≡ shape.Name) a → Each (Expressed source print) b
     → Stepped source print (two_children a b) line (first ∷ step.Sign sign.LeftParen ∷ second_as place.Items ∷ step.Sign sign.RightParen ∷ []) us end → At source print Linkable (Two two_of.Call s a b) line end us
@@ -142,10 +146,14 @@ member_called_of : {source print : List ℕ} {line mid last : Bool} {s : ℕ} {a
     → TokenAt source print (λ y. is wanted.LinkName y ≡ true) false b ws last → t.new_line ≡ last → Some (shape.Mark mark.LeftParen) ≡ Some t.shape → ReadAs source print (Closes Arguments (shape.Mark mark.RightParen)) c zs → Some (shape.Mark mark.RightParen) ≡ Some u.shape
     → At source print Linkable (Three three_of.MemberCall s a b c) line false (us ++ (d ∷ (ws ++ (t ∷ (zs ++ (u ∷ []))))))
 member_called_of {us = us} {zs = zs} d t u p q (token_at {u = c} m h e) n f r g = let v = node_three three_of.MemberCall p.value (leaf c) r.value in
-    record { value = v;
+    record {
+      value = v;
       kind = λ w x l. subst (λ z. Is Operand [] z x) (sym (append_assoc us (d ∷ c ∷ t ∷ (zs ++ (u ∷ []))) w)) (p.kind (d ∷ ((c ∷ t ∷ (zs ++ (u ∷ []))) ++ w)) x
-        (is_links_1 d (c ∷ t ∷ (zs ++ (u ∷ []))) v w x (has_sign q) (is_link_1 c _ _ e (is_link_rest_1 t _ _ (ap not n) (has_sign f) (r.kind u (has_sign g)))) l));
-      alike = alike.three p.alike (alike.token h) r.alike; headed = headed_both _ us _ p.headed; ended = refl }
+          (is_links_1 d (c ∷ t ∷ (zs ++ (u ∷ []))) v w x (has_sign q) (is_link_1 c _ _ e (is_link_rest_1 t _ _ (ap not n) (has_sign f) (r.kind u (has_sign g)))) l));
+      alike = alike.three p.alike (alike.token h) r.alike;
+      headed = headed_both _ us _ p.headed;
+      ended = refl;
+    }
 
 member_called : {source print : List ℕ} {line end : Bool} {s : ℕ} {a b c : Tree} {us : List Token} → Expressed source print a → Kept (λ y. is wanted.LinkName y ≡ true) b → Each (Expressed source print) c
     → Stepped source print (three_children a b c) line (first_as place.Base ∷ step.Sign sign.Dot ∷ second_as place.Name ∷ step.Sign sign.LeftParen ∷ third_as place.Items ∷ step.Sign sign.RightParen ∷ []) us end
@@ -161,9 +169,13 @@ member_call_form {s = s} {a = a} {b = b} {c = c} p f g = base_form (fill (three_
 tuple_item_of : {source print : List ℕ} {line mid end : Bool} {s : ℕ} {a b : Tree} {us ws : List Token} (d : Token) → At source print Linkable a line mid us → Some (shape.Mark mark.Dot) ≡ Some d.shape → TokenAt source print (λ y. y ≡ shape.Integer) false b ws end
     → At source print Linkable (Two two_of.TupleItem s a b) line end (us ++ (d ∷ ws))
 tuple_item_of {us = us} d p q (token_at {u = u} n h e) =
-    record { value = node_two two_of.TupleItem p.value (leaf u);
+    record {
+      value = node_two two_of.TupleItem p.value (leaf u);
       kind = λ w x l. subst (λ z. Is Operand [] z x) (sym (append_assoc us (d ∷ u ∷ []) w)) (p.kind (d ∷ u ∷ w) x (is_links_1 d (u ∷ []) _ w x (has_sign q) (is_link_2 u (has e)) l));
-      alike = alike.two p.alike (alike.token h); headed = headed_both _ us _ p.headed; ended = refl }
+      alike = alike.two p.alike (alike.token h);
+      headed = headed_both _ us _ p.headed;
+      ended = refl;
+    }
 
 tuple_item : {source print : List ℕ} {line end : Bool} {s : ℕ} {a b : Tree} {us : List Token} → Expressed source print a → Kept (λ y. y ≡ shape.Integer) b
     → Stepped source print (two_children a b) line (first_as place.Base ∷ step.Sign sign.Dot ∷ second ∷ []) us end → At source print Linkable (Two two_of.TupleItem s a b) line end us
@@ -188,9 +200,13 @@ constant_rest is_links_2 = is_constant_rest_3
 
 constant_of : {source print : List ℕ} {line end : Bool} {a : Tree} {us : List Token} → TokenAt source print (λ y. y ≡ shape.Constant) line a us end → At source print ConstructKind a line end us
 constant_of (token_at {u = u} n h e) =
-    record { value = leaf u;
+    record {
+      value = leaf u;
       kind = (λ w x l. is_operand_2 _ _ (is_unnamed_operand_4 u w x (has e) (constant_rest l)), λ t z y w x m f c l. is_operand_2 _ _ (is_unnamed_operand_4 u (t ∷ (z ++ w)) x (has e) (is_constant_rest_1 t z y w x m f c l)));
-      alike = alike.token h; headed = n; ended = refl }
+      alike = alike.token h;
+      headed = n;
+      ended = refl;
+    }
 
 pub constant_form : {source print : List ℕ} {a : Tree} → Kept (λ y. y ≡ shape.Constant) a → Constructible source print a
 constant_form (kept q) = record { expressed = leaf_form (ap rank_of_shape q) (λ line end us h. at_widened (λ u v k. k.0) (constant_of (word_read (kept q) h))); construct = λ line end us h. constant_of (word_read (kept q) h) }
@@ -199,10 +215,16 @@ constant_form (kept q) = record { expressed = leaf_form (ap rank_of_shape q) (λ
 qualified_of : {source print : List ℕ} {line mid end : Bool} {s : ℕ} {a b : Tree} {us ws : List Token} (d : Token) → TokenAt source print (λ y. y ≡ shape.Constant) line a us mid → Some (shape.Mark mark.Dot) ≡ Some d.shape → TokenAt source print (λ y. y ≡ shape.Constant) false b ws end
     → At source print ConstructKind (Two two_of.Qualified s a b) line end (us ++ (d ∷ ws))
 qualified_of d (token_at {u = u} n h e) q (token_at {u = c} m i f) = let v = node_two two_of.Qualified (leaf u) (leaf c) in
-    record { value = v;
-      kind = (λ w x l. is_operand_2 _ _ (is_unnamed_operand_4 u (d ∷ c ∷ w) x (has e) (is_constant_rest_2 d (c ∷ w) x (has_sign q) (is_after_constant_1 c [] v w x (has f) is_qualified_rest_2 l))),
-        λ t z y w x o p k l. is_operand_2 _ _ (is_unnamed_operand_4 u (d ∷ c ∷ t ∷ (z ++ w)) x (has e) (is_constant_rest_2 d (c ∷ t ∷ (z ++ w)) x (has_sign q) (is_after_constant_1 c (t ∷ z) _ w x (has f) (is_qualified_rest_1 t z y o p k) l))));
-      alike = alike.two (alike.token h) (alike.token i); headed = n; ended = refl }
+    record {
+      value = v;
+      kind = (
+        λ w x l. is_operand_2 _ _ (is_unnamed_operand_4 u (d ∷ c ∷ w) x (has e) (is_constant_rest_2 d (c ∷ w) x (has_sign q) (is_after_constant_1 c [] v w x (has f) is_qualified_rest_2 l))),
+        λ t z y w x o p k l. is_operand_2 _ _ (is_unnamed_operand_4 u (d ∷ c ∷ t ∷ (z ++ w)) x (has e) (is_constant_rest_2 d (c ∷ t ∷ (z ++ w)) x (has_sign q) (is_after_constant_1 c (t ∷ z) _ w x (has f) (is_qualified_rest_1 t z y o p k) l))),
+      );
+      alike = alike.two (alike.token h) (alike.token i);
+      headed = n;
+      ended = refl;
+    }
 
 qualified : {source print : List ℕ} {line end : Bool} {s : ℕ} {a b : Tree} {us : List Token} → Kept (λ y. y ≡ shape.Constant) a → Kept (λ y. y ≡ shape.Constant) b
     → Stepped source print (two_children a b) line (first ∷ step.Sign sign.Dot ∷ second ∷ []) us end → At source print ConstructKind (Two two_of.Qualified s a b) line end us
@@ -211,16 +233,22 @@ qualified f g (next h (put n e (last m))) = qualified_of _ (word_read f h) e (wo
 pub qualified_form : {source print : List ℕ} {s : ℕ} {a b : Tree} → Kept (λ y. y ≡ shape.Constant) a → Kept (λ y. y ≡ shape.Constant) b → Constructible source print (Two two_of.Qualified s a b)
 unfolding printed
 qualified_form {s = s} {a = a} {b = b} f g =
-    record { expressed = base_form (fill (two_children a b) (first ∷ step.Sign sign.Dot ∷ second ∷ [])) refl refl refl refl refl (λ line end us h. at_widened (λ u v k. k.0) (qualified f g (step_two two_of.Qualified s a b place.Expression h)));
-      construct = λ line end us h. qualified f g (step_two two_of.Qualified s a b place.Expression h) }
+    record {
+      expressed = base_form (fill (two_children a b) (first ∷ step.Sign sign.Dot ∷ second ∷ [])) refl refl refl refl refl (λ line end us h. at_widened (λ u v k. k.0) (qualified f g (step_two two_of.Qualified s a b place.Expression h)));
+      construct = λ line end us h. qualified f g (step_two two_of.Qualified s a b place.Expression h);
+    }
 
 -- a construction
 constructed_of : {source print : List ℕ} {line mid : Bool} {s : ℕ} {a b : Tree} {us ws : List Token} (t u : Token) → At source print ConstructKind a line mid us → t.new_line ≡ mid → Some (shape.Mark mark.LeftParen) ≡ Some t.shape
     → ReadAs source print (Closes ConstructorArguments (shape.Mark mark.RightParen)) b ws → Some (shape.Mark mark.RightParen) ≡ Some u.shape → At source print Linkable (Two two_of.Construct s a b) line false (us ++ (t ∷ (ws ++ (u ∷ []))))
 constructed_of {us = us} {ws = ws} t u p n e r f =
-    record { value = node_two two_of.Construct p.value r.value;
+    record {
+      value = node_two two_of.Construct p.value r.value;
       kind = λ w x l. subst (λ z. Is Operand [] z x) (sym (append_assoc us (t ∷ (ws ++ (u ∷ []))) w)) (p.kind.1 t (ws ++ (u ∷ [])) r.value w x (ap not (n ∙ p.ended)) (has_sign e) (r.kind u (has_sign f)) l);
-      alike = alike.two p.alike r.alike; headed = headed_both _ us _ p.headed; ended = refl }
+      alike = alike.two p.alike r.alike;
+      headed = headed_both _ us _ p.headed;
+      ended = refl;
+    }
 
 constructed : {source print : List ℕ} {line end : Bool} {s : ℕ} {a b : Tree} {us : List Token} → Constructible source print a → ConstructorItems source print b
     → Stepped source print (two_children a b) line (first ∷ step.Sign sign.LeftParen ∷ second_as place.Items ∷ step.Sign sign.RightParen ∷ []) us end → At source print Linkable (Two two_of.Construct s a b) line end us

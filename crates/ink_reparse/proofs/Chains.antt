@@ -1,5 +1,5 @@
 -- Jumps, assignments, chains, places and operands with a word before them.
-use Rattle.std.proofs.Common.{◌≡◌, ◌⊎◌, ℕ, Bool, true, false, not, List, [], ◌∷◌, ◌++◌, Some, refl, sym, ap, subst, ◌∙◌}
+use Rattle.std.proofs.Common.{◌≡◌, ℕ, Bool, true, false, not, List, [], ◌∷◌, ◌++◌, Some, refl, sym, ap, subst, ◌∙◌}
 use Rattle.std.proofs.lemmas.List.{append_assoc}
 use Rattle.ink_grammar.specs.declared.token.Keyword.TheVariants as keyword
 use Rattle.ink_grammar.specs.declared.token.Mark.TheVariants as mark
@@ -80,8 +80,13 @@ jump_form (kept {t = t} q) = let by : (p : Place) → around p (rank_of_shape t.
 assigned_of : {source print : List ℕ} {line mid last end : Bool} {s : ℕ} {a b c : Tree} {us ws zs : List Token} → At source print PlaceKind a line mid us → TokenAt source print (λ y. is wanted.Setter y ≡ true) mid b ws last → At source print (Is Expression []) c last end zs
     → At source print (Is Expression []) (Three three_of.Assign s a b c) line end (us ++ (ws ++ zs))
 assigned_of {us = us} p (token_at {u = u} n h e) r =
-    record { value = node_three three_of.Assign p.value (leaf u) r.value; kind = is_expression_2 us _ _ _ (operand_linkable _ _ p.kind.0) (is_after_operand_1 u _ _ p.kind.1 (n ∙ p.ended) e r.kind);
-      alike = alike.three p.alike (alike.token h) r.alike; headed = headed_both _ us _ p.headed; ended = r.ended }
+    record {
+      value = node_three three_of.Assign p.value (leaf u) r.value;
+      kind = is_expression_2 us _ _ _ (operand_linkable _ _ p.kind.0) (is_after_operand_1 u _ _ p.kind.1 (n ∙ p.ended) e r.kind);
+      alike = alike.three p.alike (alike.token h) r.alike;
+      headed = headed_both _ us _ p.headed;
+      ended = r.ended;
+    }
 
 assigned : {source print : List ℕ} {line end : Bool} {s : ℕ} {a b c : Tree} {us : List Token} → Placed source print a → Kept (λ y. is wanted.Setter y ≡ true) b → Expressed source print c
     → Stepped source print (three_children a b c) line (first_as place.Base ∷ second ∷ third ∷ []) us end → At source print (Is Expression []) (Three three_of.Assign s a b c) line end us
@@ -95,9 +100,13 @@ assignment_form {s = s} {a = a} {b = b} {c = c} p f g = expression_form (fill (t
 chained_of : {source print : List ℕ} {line mid last end : Bool} {s : ℕ} {a b c : Tree} {us ws zs : List Token} → At source print Chained a line mid us → TokenAt source print (λ y. is wanted.Operator y ≡ true) mid b ws last → At source print (Is Operand []) c last end zs
     → At source print Chained (Three three_of.Binary s a b c) line end (us ++ (ws ++ zs))
 chained_of {us = us} {zs = zs} p (token_at {u = u} n h e) r =
-    record { value = node_three three_of.Binary p.value (leaf u) r.value;
+    record {
+      value = node_three three_of.Binary p.value (leaf u) r.value;
       kind = λ w x m. subst (λ z. Opened z x) (sym (append_assoc us (u ∷ zs) w)) (p.kind (u ∷ (zs ++ w)) x (is_chain_rest_1 u zs _ w x (ap not (n ∙ p.ended)) e r.kind m));
-      alike = alike.three p.alike (alike.token h) r.alike; headed = headed_both _ us _ p.headed; ended = r.ended }
+      alike = alike.three p.alike (alike.token h) r.alike;
+      headed = headed_both _ us _ p.headed;
+      ended = r.ended;
+    }
 
 chained : {source print : List ℕ} {line end : Bool} {s : ℕ} {a b c : Tree} {us : List Token} → Expressed source print a → Kept (λ y. is wanted.Operator y ≡ true) b → Expressed source print c
     → Stepped source print (three_children a b c) line (first_as place.Chain ∷ second ∷ third_as place.Operand ∷ []) us end → At source print Chained (Three three_of.Binary s a b c) line end us
@@ -133,9 +142,13 @@ field_form (kept q) = place_leaf (ap rank_of_shape q) (λ line end us h. field_o
 member_of : {source print : List ℕ} {line mid end : Bool} {s : ℕ} {a b : Tree} {us ws : List Token} (d : Token) → At source print Linkable a line mid us → Some (shape.Mark mark.Dot) ≡ Some d.shape → TokenAt source print (λ y. is wanted.LinkName y ≡ true) false b ws end
     → At source print PlaceKind (Two two_of.Member s a b) line end (us ++ (d ∷ ws))
 member_of {us = us} d p q (token_at {u = u} n h e) =
-    record { value = node_two two_of.Member p.value (leaf u);
+    record {
+      value = node_two two_of.Member p.value (leaf u);
       kind = (λ w x l. subst (λ z. Is Operand [] z x) (sym (append_assoc us (d ∷ u ∷ []) w)) (p.kind (d ∷ u ∷ w) x (is_links_1 d (u ∷ []) (node_two two_of.Member p.value (leaf u)) w x (has_sign q) (is_link_1 u [] _ e is_link_rest_2) l)), refl);
-      alike = alike.two p.alike (alike.token h); headed = headed_both _ us _ p.headed; ended = refl }
+      alike = alike.two p.alike (alike.token h);
+      headed = headed_both _ us _ p.headed;
+      ended = refl;
+    }
 
 member : {source print : List ℕ} {line end : Bool} {s : ℕ} {a b : Tree} {us : List Token} → Expressed source print a → Kept (λ y. is wanted.LinkName y ≡ true) b
     → Stepped source print (two_children a b) line (first_as place.Base ∷ step.Sign sign.Dot ∷ second_as place.Name ∷ []) us end → At source print PlaceKind (Two two_of.Member s a b) line end us
@@ -144,8 +157,10 @@ member g f (next h (put n e (last m))) = member_of _ (g.at_base _ _ _ h) e (name
 pub member_form : {source print : List ℕ} {s : ℕ} {a b : Tree} → Expressed source print a → Kept (λ y. is wanted.LinkName y ≡ true) b → Placed source print (Two two_of.Member s a b)
 unfolding printed
 member_form {s = s} {a = a} {b = b} g f =
-    record { expressed = base_form (fill (two_children a b) (first_as place.Base ∷ step.Sign sign.Dot ∷ second_as place.Name ∷ [])) refl refl refl refl refl (λ line end us h. at_widened (λ u v k. k.0) (member g f (step_two two_of.Member s a b place.Expression h)));
-      place = λ line end us h. member g f (step_two two_of.Member s a b place.Base h) }
+    record {
+      expressed = base_form (fill (two_children a b) (first_as place.Base ∷ step.Sign sign.Dot ∷ second_as place.Name ∷ [])) refl refl refl refl refl (λ line end us h. at_widened (λ u v k. k.0) (member g f (step_two two_of.Member s a b place.Expression h)));
+      place = λ line end us h. member g f (step_two two_of.Member s a b place.Base h);
+    }
 
 -- operands with a word before them
 borrowed_of : {source print : List ℕ} {line mid end : Bool} {s : ℕ} {a b : Tree} {us ws : List Token} → TokenAt source print (λ y. is wanted.BorrowWord y ≡ true) line a us mid → At source print (Is Operand []) b mid end ws

@@ -189,8 +189,11 @@ type_kind {t = t} {zs = zs} {x = x} e (async_kind {us = us} {ws = ws} a b) k = s
 type_of : {source print : List ℕ} {line mid last next : Bool} {s : ℕ} {a b c d e : Tree} {us ws zs qs ps : List Token} (t1 t2 : Token) → TokenAt source print (λ y. y ≡ shape.Keyword keyword.Type) line a us mid → ReadAs source print AsyncKind b ws → TokenAt source print (λ y. y ≡ shape.Constant) last c zs next
     → ReadAs source print (Is TypeParameters []) d qs → Some (shape.Mark mark.LeftBrace) ≡ Some t1.shape → ReadAs source print (Is ObjectMembers (no_items ∷ [])) e ps → Some (shape.Mark mark.RightBrace) ≡ Some t2.shape
     → ReadAs source print (Is Declaration []) (Five five_of.TypeDeclaration s a b c d e) (us ++ (ws ++ (zs ++ (qs ++ (t1 ∷ (ps ++ (t2 ∷ [])))))))
-type_of t1 t2 (token_at {u = t} n h e) p (token_at {u = u} m i f) q g r k = record { value = node_five five_of.TypeDeclaration (leaf t) p.value (leaf u) q.value r.value;
-    kind = type_kind (has e) p.kind (is_object_form u _ _ t1 _ _ t2 (has f) q.kind (has_sign g) r.kind (has_sign k)); alike = alike.five (alike.token h) p.alike (alike.token i) q.alike r.alike }
+type_of t1 t2 (token_at {u = t} n h e) p (token_at {u = u} m i f) q g r k = record {
+  value = node_five five_of.TypeDeclaration (leaf t) p.value (leaf u) q.value r.value;
+  kind = type_kind (has e) p.kind (is_object_form u _ _ t1 _ _ t2 (has f) q.kind (has_sign g) r.kind (has_sign k));
+  alike = alike.five (alike.token h) p.alike (alike.token i) q.alike r.alike;
+}
 
 type : {source print : List ℕ} {line end : Bool} {s : ℕ} {a b c d e : Tree} {us : List Token} → Kept (λ y. y ≡ shape.Keyword keyword.Type) a → WordsTree source print AsyncKind b → Kept (λ y. y ≡ shape.Constant) c → Perhaps (EachOfSome (Reading source print (Is TypeParameter []))) d → Each (Reading source print ObjectKind) e
     → Stepped source print (five_children a b c d e) line (first ∷ second_as place.Words ∷ third ∷ fourth_as place.Bracketed ∷ step.Sign sign.BlockOpening ∷ fifth_as place.Body ∷ step.Sign sign.BlockClosing ∷ []) us end → ReadAs source print (Is Declaration []) (Five five_of.TypeDeclaration s a b c d e) us
@@ -204,8 +207,11 @@ type_form {s = s} {a = a} {b = b} {c = c} {d = d} {e = e} f g k l j line end us 
 enum_of : {source print : List ℕ} {line mid last next : Bool} {s : ℕ} {a b c d e : Tree} {us ws zs qs ps : List Token} (t0 t1 t2 : Token) → TokenAt source print (λ y. y ≡ shape.Keyword keyword.Type) line a us mid → ReadAs source print PubKind b ws → Some (shape.Keyword keyword.Enum) ≡ Some t0.shape
     → TokenAt source print (λ y. y ≡ shape.Constant) last c zs next → ReadAs source print (Is TypeParameters []) d qs → Some (shape.Mark mark.LeftBrace) ≡ Some t1.shape → ReadAs source print (Is EnumMembers (no_items ∷ [])) e ps → Some (shape.Mark mark.RightBrace) ≡ Some t2.shape
     → ReadAs source print (Is Declaration []) (Five five_of.EnumDeclaration s a b c d e) (us ++ (ws ++ (t0 ∷ (zs ++ (qs ++ (t1 ∷ (ps ++ (t2 ∷ []))))))))
-enum_of t0 t1 t2 (token_at {u = t} n h e) p o (token_at {u = u} m i f) q g r k = record { value = node_five five_of.EnumDeclaration (leaf t) p.value (leaf u) q.value r.value;
-    kind = is_declaration_1 t _ _ _ _ (has e) p.kind (is_type_form_1 t0 u _ _ t1 _ _ t2 (has_sign o) (has f) q.kind (has_sign g) r.kind (has_sign k)); alike = alike.five (alike.token h) p.alike (alike.token i) q.alike r.alike }
+enum_of t0 t1 t2 (token_at {u = t} n h e) p o (token_at {u = u} m i f) q g r k = record {
+  value = node_five five_of.EnumDeclaration (leaf t) p.value (leaf u) q.value r.value;
+  kind = is_declaration_1 t _ _ _ _ (has e) p.kind (is_type_form_1 t0 u _ _ t1 _ _ t2 (has_sign o) (has f) q.kind (has_sign g) r.kind (has_sign k));
+  alike = alike.five (alike.token h) p.alike (alike.token i) q.alike r.alike;
+}
 
 enum : {source print : List ℕ} {line end : Bool} {s : ℕ} {a b c d e : Tree} {us : List Token} → Kept (λ y. y ≡ shape.Keyword keyword.Type) a → WordsTree source print PubKind b → Kept (λ y. y ≡ shape.Constant) c → Perhaps (EachOfSome (Reading source print (Is TypeParameter []))) d → Each (Reading source print EnumKind) e
     → Stepped source print (five_children a b c d e) line (first ∷ second_as place.Words ∷ step.Sign sign.Enum ∷ third ∷ fourth_as place.Bracketed ∷ step.Sign sign.BlockOpening ∷ fifth_as place.Body ∷ step.Sign sign.BlockClosing ∷ []) us end
@@ -219,8 +225,11 @@ enum_form {s = s} {a = a} {b = b} {c = c} {d = d} {e = e} f g k l j line end us 
 -- a trait
 trait_of : {source print : List ℕ} {line mid last next : Bool} {s : ℕ} {a b c d : Tree} {us ws zs qs : List Token} (t1 t2 : Token) → TokenAt source print (λ y. y ≡ shape.Keyword keyword.Trait) line a us mid → ReadAs source print PubKind b ws → TokenAt source print (λ y. y ≡ shape.Constant) last c zs next
     → Some (shape.Mark mark.LeftBrace) ≡ Some t1.shape → ReadAs source print (Is TraitMethods (no_items ∷ [])) d qs → Some (shape.Mark mark.RightBrace) ≡ Some t2.shape → ReadAs source print (Is Declaration []) (Four four_of.Trait s a b c d) (us ++ (ws ++ (zs ++ (t1 ∷ (qs ++ (t2 ∷ []))))))
-trait_of t1 t2 (token_at {u = t} n h e) p (token_at {u = u} m i f) g r k = record { value = node_four four_of.Trait (leaf t) p.value (leaf u) r.value;
-    kind = is_declaration_2 t _ _ u t1 _ _ t2 (has e) p.kind (has f) (has_sign g) r.kind (has_sign k); alike = alike.four (alike.token h) p.alike (alike.token i) r.alike }
+trait_of t1 t2 (token_at {u = t} n h e) p (token_at {u = u} m i f) g r k = record {
+  value = node_four four_of.Trait (leaf t) p.value (leaf u) r.value;
+  kind = is_declaration_2 t _ _ u t1 _ _ t2 (has e) p.kind (has f) (has_sign g) r.kind (has_sign k);
+  alike = alike.four (alike.token h) p.alike (alike.token i) r.alike;
+}
 
 trait : {source print : List ℕ} {line end : Bool} {s : ℕ} {a b c d : Tree} {us : List Token} → Kept (λ y. y ≡ shape.Keyword keyword.Trait) a → WordsTree source print PubKind b → Kept (λ y. y ≡ shape.Constant) c → Each (Reading source print (Is TraitMethod [])) d
     → Stepped source print (four_children a b c d) line (first ∷ second_as place.Words ∷ third ∷ step.Sign sign.BlockOpening ∷ fourth_as place.Body ∷ step.Sign sign.BlockClosing ∷ []) us end → ReadAs source print (Is Declaration []) (Four four_of.Trait s a b c d) us
@@ -240,8 +249,11 @@ implemented (there (kept q)) h = implemented_of q h
 
 implementation_of : {source print : List ℕ} {line mid last : Bool} {s : ℕ} {a b c d : Tree} {us ws zs qs : List Token} (t1 t2 : Token) → TokenAt source print (λ y. y ≡ shape.Keyword keyword.Impl) line a us mid → TokenAt source print (λ y. y ≡ shape.Constant) mid b ws last → ReadAs source print (Is ImplementedTrait []) c zs
     → Some (shape.Mark mark.LeftBrace) ≡ Some t1.shape → ReadAs source print (Is Methods (no_items ∷ [])) d qs → Some (shape.Mark mark.RightBrace) ≡ Some t2.shape → ReadAs source print (Is Declaration []) (Four four_of.Implementation s a b c d) (us ++ (ws ++ (zs ++ (t1 ∷ (qs ++ (t2 ∷ []))))))
-implementation_of t1 t2 (token_at {u = t} n h e) (token_at {u = u} m i f) p g r k = record { value = node_four four_of.Implementation (leaf t) (leaf u) p.value r.value;
-    kind = is_declaration_3 t u _ _ t1 _ _ t2 (has e) (has f) p.kind (has_sign g) r.kind (has_sign k); alike = alike.four (alike.token h) (alike.token i) p.alike r.alike }
+implementation_of t1 t2 (token_at {u = t} n h e) (token_at {u = u} m i f) p g r k = record {
+  value = node_four four_of.Implementation (leaf t) (leaf u) p.value r.value;
+  kind = is_declaration_3 t u _ _ t1 _ _ t2 (has e) (has f) p.kind (has_sign g) r.kind (has_sign k);
+  alike = alike.four (alike.token h) (alike.token i) p.alike r.alike;
+}
 
 implementation : {source print : List ℕ} {line end : Bool} {s : ℕ} {a b c d : Tree} {us : List Token} → Kept (λ y. y ≡ shape.Keyword keyword.Impl) a → Kept (λ y. y ≡ shape.Constant) b → Perhaps (Kept (λ y. y ≡ shape.Constant)) c → Each (Reading source print (Is Method [])) d
     → Stepped source print (four_children a b c d) line (first ∷ second ∷ third_as place.Implemented ∷ step.Sign sign.BlockOpening ∷ fourth_as place.Body ∷ step.Sign sign.BlockClosing ∷ []) us end → ReadAs source print (Is Declaration []) (Four four_of.Implementation s a b c d) us

@@ -1,5 +1,5 @@
 -- Lists that are read item by item.
-use Rattle.std.proofs.Common.{◌≡◌, ℕ, Bool, true, false, List, [], ◌∷◌, ◌++◌, Option, None, Some, refl, sym, ap, subst, ◌∙◌, append-nil}
+use Rattle.std.proofs.Common.{◌≡◌, ℕ, Bool, true, false, List, [], ◌∷◌, ◌++◌, None, Some, sym, ap, subst, ◌∙◌}
 use Rattle.std.proofs.lemmas.List.{append_assoc}
 use Rattle.ink_grammar.specs.declared.token.Mark.TheVariants as mark
 use Rattle.ink_grammar.specs.declared.token.Shape.{Shape}
@@ -10,7 +10,6 @@ use Rattle.ink_grammar.specs.Shapes.{same}
 use Rattle.ink_grammar.specs.Tree.{Tree, Missing, Empty, Two, Found, no_items, nothing, node_two}
 use Rattle.ink_print.specs.declared.place.Place.{Place}
 use Rattle.ink_print.specs.declared.place.Place.TheVariants as place
-use Rattle.ink_print.specs.declared.step.Sign.{Sign}
 use Rattle.ink_print.specs.declared.step.Sign.TheVariants as sign
 use Rattle.ink_print.specs.declared.step.Step.TheVariants as step
 use Rattle.ink_print.specs.Table.{first_as, second}
@@ -145,15 +144,21 @@ module _ {source print : List ℕ} {G : Tree → Type 0} {P : Bool → List Toke
   pub sequence : {line mid end : Bool} {s : ℕ} {a b : Tree} {us ws : List Token} → Listed source print P Rest line mid a us → G b → Spells source print mid (printed b place.Expression) ws end
       → ReadAs source print (λ z v. (w : List Token) (x : Found) → Rest v w x → Items P Rest line no_items (z ++ w) x) (Two two_of.More s a b) (us ++ ws)
   sequence {line = line} {us = us} {ws = ws} l g h = let r = read _ _ _ _ g h in
-      record { value = node_two two_of.More l.value r.value; alike = alike.two l.alike r.alike;
-        kind = λ w x m. subst (λ z. Items P Rest line no_items z x) (sym (append_assoc us ws w)) (l.goes (ws ++ w) x (item r.kind m)) }
+      record {
+        value = node_two two_of.More l.value r.value;
+        alike = alike.two l.alike r.alike;
+        kind = λ w x m. subst (λ z. Items P Rest line no_items z x) (sym (append_assoc us ws w)) (l.goes (ws ++ w) x (item r.kind m));
+      }
 
   module _ {p : Place} {x : Shape} (separated : Separated source print p x) (again : Again P Rest x) where
     listed_more : {line end : Bool} {k : ℕ} {a b : Tree} {us : List Token} → ((end : Bool) (us : List Token) → Spells source print line (printed a p) us end → Listed source print P Rest line end a us) → G b
         → WithSign source print p x line a b us end → Listed source print P Rest line end (Two two_of.More k a b) us
     listed_more {line = line} f g (with_sign {us = us} {ws = ws} u h m e) = let l = f _ _ h in let r = read _ _ _ _ g m in
-        record { value = node_two two_of.More l.value r.value; alike = alike.two l.alike r.alike;
-          goes = λ w y i. subst (λ z. Items P Rest line no_items z y) (sym (append_assoc us (ws ++ (u ∷ [])) w ∙ ap (λ z. us ++ z) (append_assoc ws (u ∷ []) w))) (l.goes (ws ++ (u ∷ w)) y (item r.kind (again _ u w y e i))) }
+        record {
+          value = node_two two_of.More l.value r.value;
+          alike = alike.two l.alike r.alike;
+          goes = λ w y i. subst (λ z. Items P Rest line no_items z y) (sym (append_assoc us (ws ++ (u ∷ [])) w ∙ ap (λ z. us ++ z) (append_assoc ws (u ∷ []) w))) (l.goes (ws ++ (u ∷ w)) y (item r.kind (again _ u w y e i)));
+        }
 
     pub listed : {line end : Bool} {a : Tree} {us : List Token} → Each G a → Spells source print line (printed a p) us end → Listed source print P Rest line end a us
     listed no_item h = listed_none (separated.empty _ _ _ h)
@@ -163,8 +168,11 @@ module _ {source print : List ℕ} {G : Tree → Type 0} {P : Bool → List Toke
   module _ {p : Place} {x y : Shape} (enclosing : Enclosing source print p x y) (again : Again P Rest (shape.Mark mark.Comma)) (close : (v : Found) (t : Token) → same y t.shape ≡ true → Rest v (t ∷ []) v) where
     enclosed : {end : Bool} {k : ℕ} {a b : Tree} {us : List Token} → Each G a → G b → Between source print x y a b us end → ReadAs source print (Behind x P Rest) (Two two_of.More k a b) us
     enclosed e g (between {us = us} {ws = ws} t u f h m o) = let l = listed (commas source print) again e h in let r = read _ _ _ _ g m in
-        record { value = node_two two_of.More l.value r.value; alike = alike.two l.alike r.alike;
-          kind = behind t f (l.goes (ws ++ (u ∷ [])) (node_two two_of.More l.value r.value) (item r.kind (close _ u o))) }
+        record {
+          value = node_two two_of.More l.value r.value;
+          alike = alike.two l.alike r.alike;
+          kind = behind t f (l.goes (ws ++ (u ∷ [])) (node_two two_of.More l.value r.value) (item r.kind (close _ u o)));
+        }
 
     pub enclosed_some : {line end : Bool} {a : Tree} {us : List Token} → EachOfSome G a → Spells source print line (printed a p) us end → ReadAs source print (Behind x P Rest) a us
     enclosed_some (with_item {s = s} {a = a} {b = b} e g) h = enclosed e g (enclosing.some s a b _ _ _ h)
@@ -193,8 +201,11 @@ module _ {source print : List ℕ} {G : Tree → Type 0} {P : Bool → List Toke
     lines_more : {line end : Bool} {k : ℕ} {a b : Tree} {us : List Token} → ((end : Bool) (us : List Token) → Spells source print line (printed a place.Lines) us end → Listed source print P Rest line end a us) → G b
         → Stepped source print (two_children a b) line (first_as place.Lines ∷ second ∷ step.Sign sign.Line ∷ []) us end → Listed source print P Rest line end (Two two_of.More k a b) us
     lines_more {line = line} f g (next {us = us} h (next {us = ws} m (new_line stop))) = let l = f _ _ h in let r = read _ _ _ _ g m in
-        record { value = node_two two_of.More l.value r.value; alike = alike.two l.alike r.alike;
-          goes = λ w y i. subst (λ z. Items P Rest line no_items z y) (sym (append_assoc us (ws ++ []) w ∙ ap (λ z. us ++ z) (append_assoc ws [] w))) (l.goes (ws ++ w) y (item r.kind (again _ w y i))) }
+        record {
+          value = node_two two_of.More l.value r.value;
+          alike = alike.two l.alike r.alike;
+          goes = λ w y i. subst (λ z. Items P Rest line no_items z y) (sym (append_assoc us (ws ++ []) w ∙ ap (λ z. us ++ z) (append_assoc ws [] w))) (l.goes (ws ++ w) y (item r.kind (again _ w y i)));
+        }
     lines_more f g (next h (next m (put n e stop))) = let bad : None ≡ Some _ = e in cc
 
     pub lines : {line end : Bool} {a : Tree} {us : List Token} → Each G a → Spells source print line (printed a place.Lines) us end → Listed source print P Rest line end a us
@@ -206,8 +217,11 @@ module _ {source print : List ℕ} {G : Tree → Type 0} {P : Bool → List Toke
     body_more : {line end : Bool} {k : ℕ} {a b : Tree} {us : List Token} → (stay : (v : Found) → Rest v [] v) → Each G a → G b
         → Stepped source print (two_children a b) line (step.Sign sign.Line ∷ first_as place.Lines ∷ second ∷ step.Sign sign.Line ∷ []) us end → ReadAs source print (Items P Rest true no_items) (Two two_of.More k a b) us
     body_more stay e g (new_line (next {us = us} h (next {us = ws} m (new_line stop)))) = let l = lines e h in let r = read _ _ _ _ g m in
-        record { value = node_two two_of.More l.value r.value; alike = alike.two l.alike r.alike;
-          kind = l.goes (ws ++ []) (node_two two_of.More l.value r.value) (item r.kind (stay _)) }
+        record {
+          value = node_two two_of.More l.value r.value;
+          alike = alike.two l.alike r.alike;
+          kind = l.goes (ws ++ []) (node_two two_of.More l.value r.value) (item r.kind (stay _));
+        }
     body_more stay e g (new_line (next h (next m (put n f stop)))) = let bad : None ≡ Some _ = f in cc
     body_more stay e g (put n f _) = let bad : None ≡ Some _ = f in cc
 
@@ -224,8 +238,11 @@ module _ {source print : List ℕ} {G : Tree → Type 0} {P : Bool → List Toke
     line_more : {line end : Bool} {k : ℕ} {a b : Tree} {us : List Token} → (stay : (v : Found) → Rest v [] v) → Each G a → G b
         → Stepped source print (two_children a b) line (first_as place.Lines ∷ second ∷ step.Sign sign.Line ∷ []) us end → ReadAs source print (Items P Rest line no_items) (Two two_of.More k a b) us
     line_more stay e g (next {us = us} h (next {us = ws} m (new_line stop))) = let l = lines e h in let r = read _ _ _ _ g m in
-        record { value = node_two two_of.More l.value r.value; alike = alike.two l.alike r.alike;
-          kind = l.goes (ws ++ []) (node_two two_of.More l.value r.value) (item r.kind (stay _)) }
+        record {
+          value = node_two two_of.More l.value r.value;
+          alike = alike.two l.alike r.alike;
+          kind = l.goes (ws ++ []) (node_two two_of.More l.value r.value) (item r.kind (stay _));
+        }
     line_more stay e g (next h (next m (put n f stop))) = let bad : None ≡ Some _ = f in cc
 
     pub lines_of_each : {K : List Token → Found → Type 0} {line end : Bool} {a : Tree} {us : List Token} → ((v : Found) → Rest v [] v) → K [] no_items → ((line : Bool) (u : List Token) (v : Found) → Items P Rest line no_items u v → K u v)

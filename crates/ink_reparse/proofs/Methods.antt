@@ -1,5 +1,5 @@
 -- The words behind `let`, `type` and `fn`, and methods.
-use Rattle.std.proofs.Common.{◌≡◌, ◌⊎◌, ℕ, Bool, true, false, not, List, [], ◌∷◌, ◌++◌, Some, inl, inr, refl, sym, ap, subst, ◌∙◌, append-nil}
+use Rattle.std.proofs.Common.{◌≡◌, ◌⊎◌, ℕ, Bool, true, false, List, [], ◌∷◌, ◌++◌, Some, inl, inr, refl, sym, ap, subst, ◌∙◌, append-nil}
 use Rattle.std.proofs.lemmas.List.{append_assoc}
 use Rattle.ink_grammar.specs.declared.token.Keyword.TheVariants as keyword
 use Rattle.ink_grammar.specs.declared.token.Mark.TheVariants as mark
@@ -10,7 +10,7 @@ use Rattle.ink_grammar.specs.declared.symbol.Part.{Part}
 use Rattle.ink_grammar.specs.declared.tree.TwoChildren.TheVariants as two_of
 use Rattle.ink_grammar.specs.declared.tree.FourChildren.TheVariants as four_of
 use Rattle.ink_grammar.specs.declared.tree.FiveChildren.TheVariants as five_of
-use Rattle.ink_grammar.specs.Shapes.{same, is}
+use Rattle.ink_grammar.specs.Shapes.{same}
 use Rattle.ink_grammar.specs.Tree.{Tree, Empty, Two, Four, Five, Found, leaf, no_items, node_two, node_four, node_five}
 use Rattle.ink_grammar.specs.Parts.{TraitMethod, OptionalPub, OptionalAsync, OptionalMut, MethodKind, TraitMethodKind, Method, Parameters, ParametersMore, ParametersRest, Parameter, MethodResult, FullType, TypeParameters, TypeParametersRest, TypeParameter, Bounds, BoundsRest, Block}
 use Rattle.ink_grammar.specs.Productions.{Is, is_trait_method, is_optional_pub_1, is_optional_pub_2, is_optional_async_1, is_optional_async_2, is_optional_mut_1, is_optional_mut_2, is_method_kind_1, is_method_kind_2, is_method_kind_3, is_method_kind_4, is_trait_method_kind_1, is_trait_method_kind_2, is_trait_method_kind_3, is_method, is_parameters_1, is_parameters_2, is_parameters_more_1, is_parameters_more_2, is_parameters_rest_1, is_parameters_rest_2, is_parameter, is_method_result_1, is_method_result_2, is_type_parameters_1, is_type_parameters_2, is_type_parameters_rest_1, is_type_parameters_rest_2, is_type_parameters_more_2, is_type_parameter, is_bounds_1, is_bounds_2, is_bounds_rest_1, is_bounds_rest_2}
@@ -251,8 +251,8 @@ method_behind : {t : Token} {u0 u1 u2 zs qs : List Token} {v0 v1 v2 v x : Found}
     → Is Method [] (t ∷ (((u0 ++ u1) ++ u2) ++ (zs ++ qs))) (node_four four_of.Method (leaf t) v2 v x)
 method_behind {t = t} {u0 = u0} {u1 = u1} {u2 = u2} {qs = qs} {v2 = v2} {x = x} e a b c (signature_kind {u0 = u3} {u1 = u4} {u2 = u5} {v0 = v3} {v1 = v4} {v2 = v5} u f g h i) k =
     subst (λ z. Is Method [] (t ∷ z) (node_four four_of.Method (leaf t) v2 (node_four four_of.Signature (leaf u) v3 v4 v5) x))
-      (sym (append_assoc (u0 ++ u1) u2 _ ∙ append_assoc u0 u1 _ ∙ ap (λ z. u0 ++ (u1 ++ (u2 ++ z))) (method_tail u u3 u4 u5 qs)))
-      (is_method t u0 _ u1 _ u2 v2 u u3 v3 u4 v4 u5 v5 qs x e a b c f g h i k)
+    (sym (append_assoc (u0 ++ u1) u2 _ ∙ append_assoc u0 u1 _ ∙ ap (λ z. u0 ++ (u1 ++ (u2 ++ z))) (method_tail u u3 u4 u5 qs)))
+    (is_method t u0 _ u1 _ u2 v2 u u3 v3 u4 v4 u5 v5 qs x e a b c f g h i k)
 
 method_self : {t : Token} {ws us zs qs : List Token} {v y x z : Found} → same (shape.Keyword keyword.Fn) t.shape ≡ true → AsyncKind us y → Is MethodKind (y ∷ []) ws v → SignatureKind zs x → Is Block [] qs z
     → Is Method [] (t ∷ ((us ++ ws) ++ (zs ++ qs))) (node_four four_of.Method (leaf t) v x z)

@@ -1,5 +1,5 @@
 -- Patterns are read as they were printed.
-use Rattle.std.proofs.Common.{◌≡◌, ◌⊎◌, ℕ, Bool, true, false, List, [], ◌∷◌, ◌++◌, Some, refl, sym, subst, ◌∙◌, append-nil}
+use Rattle.std.proofs.Common.{◌≡◌, ℕ, Bool, true, false, List, [], ◌∷◌, ◌++◌, Some, refl, sym, subst, append-nil}
 use Rattle.std.proofs.lemmas.List.{append_assoc}
 use Rattle.ink_grammar.specs.declared.token.Keyword.TheVariants as keyword
 use Rattle.ink_grammar.specs.declared.token.Mark.TheVariants as mark
@@ -22,7 +22,7 @@ use Rattle.ink_sorts.specs.Spells.{Spells}
 use Rattle.ink_sorts.specs.Alike as alike
 use Rattle.ink_reparse.proofs.Steps.{Stepped, stop, put, last, next, two_children, three_children, four_children, step_two, step_three, step_four}
 use Rattle.ink_reparse.proofs.Words.{has, has_sign, Kept, TokenAt, token_at, word_read, bracket_alike, part_read}
-use Rattle.ink_reparse.proofs.Lists.{Each, no_item, one_more, EachOfSome, ReadAs, Items, item, Again, behind, widened, read_empty, seen_some, Reading}
+use Rattle.ink_reparse.proofs.Lists.{Each, no_item, one_more, EachOfSome, ReadAs, Items, item, Again, widened, read_empty, seen_some, Reading}
 
 -- what more alternatives may follow
 abbrev pub PatternKind : List Token → Found → Type 0
@@ -46,8 +46,11 @@ pattern_read r = widened pattern_whole r
 
 -- alternatives
 either_of : {source print : List ℕ} {s : ℕ} {a b : Tree} {us ws : List Token} (t : Token) → ReadAs source print PatternKind a us → Some (shape.Keyword keyword.Or) ≡ Some t.shape → ReadAs source print (Is Alternative []) b ws → ReadAs source print PatternKind (Two two_of.Either s a b) (us ++ (t ∷ ws))
-either_of {us = us} {ws = ws} t p e r = record { value = node_two two_of.Either p.value r.value;
-    kind = λ w x m. subst (λ z. Is Pattern [] z x) (sym (append_assoc us (t ∷ ws) w)) (p.kind (t ∷ (ws ++ w)) x (is_pattern_rest_1 t ws _ w x (has_sign e) r.kind m)); alike = alike.two p.alike r.alike }
+either_of {us = us} {ws = ws} t p e r = record {
+  value = node_two two_of.Either p.value r.value;
+  kind = λ w x m. subst (λ z. Is Pattern [] z x) (sym (append_assoc us (t ∷ ws) w)) (p.kind (t ∷ (ws ++ w)) x (is_pattern_rest_1 t ws _ w x (has_sign e) r.kind m));
+  alike = alike.two p.alike r.alike;
+}
 
 either : {source print : List ℕ} {line end : Bool} {s : ℕ} {a b : Tree} {us : List Token} → PatternTree source print a → AlternativeTree source print b → Stepped source print (two_children a b) line (first ∷ step.Sign sign.Or ∷ second ∷ []) us end → ReadAs source print PatternKind (Two two_of.Either s a b) us
 either f g (next h (put n e (last m))) = either_of _ (f _ _ _ h) e (g _ _ _ m)
@@ -115,8 +118,11 @@ constructor_pattern_form {s = s} {a = a} {b = b} f g line end us h = constructor
 pair : {source print : List ℕ} {line end : Bool} {s : ℕ} {a b c : Tree} {us : List Token} → Kept (λ y. y ≡ shape.Mark mark.LeftParen) a → PatternTree source print b → PatternTree source print c
     → Stepped source print (three_children a b c) line (step.Sign sign.LeftParen ∷ second ∷ step.Sign sign.Comma ∷ third ∷ step.Sign sign.RightParen ∷ []) us end → ReadAs source print (Is Alternative []) (Three three_of.PairPattern s a b c) us
 pair f g k (put {u = t0} n0 e0 (next h (put {u = t1} n1 e1 (next m (put {u = t2} n2 e2 stop))))) = let x = pattern_read (g _ _ _ h) in let y = pattern_read (k _ _ _ m) in
-    record { value = node_three three_of.PairPattern (leaf t0) x.value y.value; alike = alike.three (bracket_alike f refl e0) x.alike y.alike;
-      kind = is_alternative_5 t0 _ _ t1 _ _ _ _ (has_sign e0) x.kind (has_sign e1) y.kind (is_tuple_pattern_rest_1 t2 (has_sign e2)) }
+    record {
+      value = node_three three_of.PairPattern (leaf t0) x.value y.value;
+      alike = alike.three (bracket_alike f refl e0) x.alike y.alike;
+      kind = is_alternative_5 t0 _ _ t1 _ _ _ _ (has_sign e0) x.kind (has_sign e1) y.kind (is_tuple_pattern_rest_1 t2 (has_sign e2));
+    }
 
 pub pair_pattern_form : {source print : List ℕ} {s : ℕ} {a b c : Tree} → Kept (λ y. y ≡ shape.Mark mark.LeftParen) a → PatternTree source print b → PatternTree source print c → AlternativeTree source print (Three three_of.PairPattern s a b c)
 pair_pattern_form {s = s} {a = a} {b = b} {c = c} f g k line end us h = pair f g k (step_three three_of.PairPattern s a b c place.Expression h)
@@ -124,8 +130,11 @@ pair_pattern_form {s = s} {a = a} {b = b} {c = c} f g k line end us h = pair f g
 triple : {source print : List ℕ} {line end : Bool} {s : ℕ} {a b c d : Tree} {us : List Token} → Kept (λ y. y ≡ shape.Mark mark.LeftParen) a → PatternTree source print b → PatternTree source print c → PatternTree source print d
     → Stepped source print (four_children a b c d) line (step.Sign sign.LeftParen ∷ second ∷ step.Sign sign.Comma ∷ third ∷ step.Sign sign.Comma ∷ fourth ∷ step.Sign sign.RightParen ∷ []) us end → ReadAs source print (Is Alternative []) (Four four_of.TriplePattern s a b c d) us
 triple f g k l (put {u = t0} n0 e0 (next h (put {u = t1} n1 e1 (next m (put {u = t2} n2 e2 (next r (put {u = t3} n3 e3 stop))))))) = let x = pattern_read (g _ _ _ h) in let y = pattern_read (k _ _ _ m) in let z = pattern_read (l _ _ _ r) in
-    record { value = node_four four_of.TriplePattern (leaf t0) x.value y.value z.value; alike = alike.four (bracket_alike f refl e0) x.alike y.alike z.alike;
-      kind = is_alternative_5 t0 _ _ t1 _ _ _ _ (has_sign e0) x.kind (has_sign e1) y.kind (is_tuple_pattern_rest_2 t2 _ _ t3 (has_sign e2) z.kind (has_sign e3)) }
+    record {
+      value = node_four four_of.TriplePattern (leaf t0) x.value y.value z.value;
+      alike = alike.four (bracket_alike f refl e0) x.alike y.alike z.alike;
+      kind = is_alternative_5 t0 _ _ t1 _ _ _ _ (has_sign e0) x.kind (has_sign e1) y.kind (is_tuple_pattern_rest_2 t2 _ _ t3 (has_sign e2) z.kind (has_sign e3));
+    }
 
 pub triple_pattern_form : {source print : List ℕ} {s : ℕ} {a b c d : Tree} → Kept (λ y. y ≡ shape.Mark mark.LeftParen) a → PatternTree source print b → PatternTree source print c → PatternTree source print d → AlternativeTree source print (Four four_of.TriplePattern s a b c d)
 triple_pattern_form {s = s} {a = a} {b = b} {c = c} {d = d} f g k l line end us h = triple f g k l (step_four four_of.TriplePattern s a b c d place.Expression h)
@@ -173,8 +182,11 @@ abbrev TextKind : List Token → Found → Type 0
 TextKind us v = (w : List Token) (x : Found) → Is PatternTextRest (v ∷ []) w x → Is PatternTextRest (no_items ∷ []) (us ++ w) x
 
 part_of_text : {source print : List ℕ} {line mid : Bool} {s : ℕ} {a b : Tree} {us ws : List Token} → ReadAs source print TextKind a us → TokenAt source print (λ y. y ≡ shape.TextPart) line b ws mid → ReadAs source print TextKind (Two two_of.More s a b) (us ++ ws)
-part_of_text {us = us} p (token_at {u = u} n h e) = record { value = node_two two_of.More p.value (leaf u);
-    kind = λ w x m. subst (λ z. Is PatternTextRest (no_items ∷ []) z x) (sym (append_assoc us (u ∷ []) w)) (p.kind (u ∷ w) x (is_pattern_text_rest_2 u w x (has e) m)); alike = alike.two p.alike (alike.token h) }
+part_of_text {us = us} p (token_at {u = u} n h e) = record {
+  value = node_two two_of.More p.value (leaf u);
+  kind = λ w x m. subst (λ z. Is PatternTextRest (no_items ∷ []) z x) (sym (append_assoc us (u ∷ []) w)) (p.kind (u ∷ w) x (is_pattern_text_rest_2 u w x (has e) m));
+  alike = alike.two p.alike (alike.token h);
+}
 
 part_step : {source print : List ℕ} {line end : Bool} {s : ℕ} {a b : Tree} {us : List Token} → ((end : Bool) (us : List Token) → Spells source print line (printed a place.TextParts) us end → ReadAs source print TextKind a us) → Kept (λ y. y ≡ shape.TextPart) b
     → Stepped source print (two_children a b) line (first_as place.TextParts ∷ second_as place.TextItem ∷ []) us end → ReadAs source print TextKind (Two two_of.More s a b) us

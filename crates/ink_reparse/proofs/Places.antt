@@ -1,6 +1,5 @@
 -- Expressions are read as they were printed, at each place at which an expression may stand.
-use Rattle.std.proofs.Common.{◌≡◌, ℕ, Bool, true, false, List, [], ◌∷◌, ◌++◌, Option, None, Some, refl, sym, ap, subst, ◌∙◌, append-nil}
-use Rattle.std.proofs.lemmas.List.{append_assoc}
+use Rattle.std.proofs.Common.{◌≡◌, ℕ, Bool, true, false, List, [], ◌∷◌, ◌++◌, Some, refl, sym, ap, subst, ◌∙◌, append-nil}
 use Rattle.ink_grammar.specs.declared.token.Mark.TheVariants as mark
 use Rattle.ink_grammar.specs.declared.token.Shape.TheVariants as shape
 use Rattle.ink_grammar.specs.declared.token.Token.{Token}
@@ -108,8 +107,13 @@ pub record Expressed (source print : List ℕ) (a : Tree) : Type 0 where
 within : {source print : List ℕ} {a : Tree} {line end : Bool} {ps : List Piece} {t : Token} {us : List Token} → t.new_line ≡ line → Some (shape.Mark mark.LeftParen) ≡ Some t.shape
     → ((line end : Bool) (us : List Token) → Spells source print line ps us end → At source print (Is Expression []) a line end us) → Split source print false ps (piece.Sign sign.RightParen ∷ []) us end → At source print Linkable a line end (t ∷ us)
 within {t = t} n e f (both {us = us} h (a_sign {u = u} m o nothing)) = let r = f _ _ _ h in
-    record { value = in_parentheses (leaf t) r.value; kind = linkable_primary _ _ (is_primary_3 t us r.value (u ∷ []) (in_parentheses (leaf t) r.value) (has_sign e) r.kind (is_parenthesis_rest_1 u (has_sign o)));
-      alike = r.alike; headed = n; ended = refl }
+    record {
+      value = in_parentheses (leaf t) r.value;
+      kind = linkable_primary _ _ (is_primary_3 t us r.value (u ∷ []) (in_parentheses (leaf t) r.value) (has_sign e) r.kind (is_parenthesis_rest_1 u (has_sign o)));
+      alike = r.alike;
+      headed = n;
+      ended = refl;
+    }
 
 pub parenthesised : {source print : List ℕ} {a : Tree} {ps : List Piece} → ((line end : Bool) (us : List Token) → Spells source print line ps us end → At source print (Is Expression []) a line end us)
     → (line end : Bool) (us : List Token) → Spells source print line (in_parens ps) us end → At source print Linkable a line end us

@@ -1,5 +1,5 @@
 -- Atoms, texts, tuples and arrays.
-use Rattle.std.proofs.Common.{◌≡◌, ◌⊎◌, ℕ, Bool, true, false, List, [], ◌∷◌, ◌++◌, Some, refl, sym, subst, ◌∙◌}
+use Rattle.std.proofs.Common.{◌≡◌, ℕ, Bool, true, false, List, [], ◌∷◌, ◌++◌, Some, refl, sym, subst}
 use Rattle.std.proofs.lemmas.List.{append_assoc}
 use Rattle.ink_grammar.specs.declared.token.Mark.TheVariants as mark
 use Rattle.ink_grammar.specs.declared.token.Shape.TheVariants as shape
@@ -92,8 +92,13 @@ text_form {s = s} {a = a} {b = b} f g = base_form (fill (two_children a b) (firs
 pair : {source print : List ℕ} {line end : Bool} {s : ℕ} {a b c : Tree} {us : List Token} → Kept (λ y. y ≡ shape.Mark mark.LeftParen) a → Expressed source print b → Expressed source print c
     → Stepped source print (three_children a b c) line (step.Sign sign.LeftParen ∷ second ∷ step.Sign sign.Comma ∷ third ∷ step.Sign sign.RightParen ∷ []) us end → At source print (Is Primary []) (Three three_of.Pair s a b c) line end us
 pair f g k (put {u = t0} n0 e0 (next h (put {u = t1} n1 e1 (next m (put {u = t2} n2 e2 stop))))) = let x = g.at_expression _ _ _ h in let y = k.at_expression _ _ _ m in
-    record { value = node_three three_of.Pair (leaf t0) x.value y.value; alike = alike.three (bracket_alike f refl e0) x.alike y.alike; headed = n0; ended = refl;
-      kind = is_primary_3 t0 _ _ _ _ (has_sign e0) x.kind (is_parenthesis_rest_2 t1 _ _ _ _ (has_sign e1) y.kind (is_tuple_rest_1 t2 (has_sign e2))) }
+    record {
+      value = node_three three_of.Pair (leaf t0) x.value y.value;
+      alike = alike.three (bracket_alike f refl e0) x.alike y.alike;
+      headed = n0;
+      ended = refl;
+      kind = is_primary_3 t0 _ _ _ _ (has_sign e0) x.kind (is_parenthesis_rest_2 t1 _ _ _ _ (has_sign e1) y.kind (is_tuple_rest_1 t2 (has_sign e2)));
+    }
 
 pub pair_form : {source print : List ℕ} {s : ℕ} {a b c : Tree} → Kept (λ y. y ≡ shape.Mark mark.LeftParen) a → Expressed source print b → Expressed source print c → Expressed source print (Three three_of.Pair s a b c)
 unfolding printed
@@ -103,8 +108,13 @@ pair_form {s = s} {a = a} {b = b} {c = c} f g k = base_form (fill (three_childre
 triple : {source print : List ℕ} {line end : Bool} {s : ℕ} {a b c d : Tree} {us : List Token} → Kept (λ y. y ≡ shape.Mark mark.LeftParen) a → Expressed source print b → Expressed source print c → Expressed source print d
     → Stepped source print (four_children a b c d) line (step.Sign sign.LeftParen ∷ second ∷ step.Sign sign.Comma ∷ third ∷ step.Sign sign.Comma ∷ fourth ∷ step.Sign sign.RightParen ∷ []) us end → At source print (Is Primary []) (Four four_of.Triple s a b c d) line end us
 triple f g k l (put {u = t0} n0 e0 (next h (put {u = t1} n1 e1 (next m (put {u = t2} n2 e2 (next r (put {u = t3} n3 e3 stop))))))) = let x = g.at_expression _ _ _ h in let y = k.at_expression _ _ _ m in let z = l.at_expression _ _ _ r in
-    record { value = node_four four_of.Triple (leaf t0) x.value y.value z.value; alike = alike.four (bracket_alike f refl e0) x.alike y.alike z.alike; headed = n0; ended = refl;
-      kind = is_primary_3 t0 _ _ _ _ (has_sign e0) x.kind (is_parenthesis_rest_2 t1 _ _ _ _ (has_sign e1) y.kind (is_tuple_rest_2 t2 _ _ t3 (has_sign e2) z.kind (has_sign e3))) }
+    record {
+      value = node_four four_of.Triple (leaf t0) x.value y.value z.value;
+      alike = alike.four (bracket_alike f refl e0) x.alike y.alike z.alike;
+      headed = n0;
+      ended = refl;
+      kind = is_primary_3 t0 _ _ _ _ (has_sign e0) x.kind (is_parenthesis_rest_2 t1 _ _ _ _ (has_sign e1) y.kind (is_tuple_rest_2 t2 _ _ t3 (has_sign e2) z.kind (has_sign e3)));
+    }
 
 pub triple_form : {source print : List ℕ} {s : ℕ} {a b c d : Tree} → Kept (λ y. y ≡ shape.Mark mark.LeftParen) a → Expressed source print b → Expressed source print c → Expressed source print d → Expressed source print (Four four_of.Triple s a b c d)
 unfolding printed

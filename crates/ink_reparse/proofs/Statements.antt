@@ -1,5 +1,5 @@
 -- Blocks, statements, conditions, loops and matches.
-use Rattle.std.proofs.Common.{◌≡◌, ◌⊎◌, ℕ, Bool, true, false, not, List, [], ◌∷◌, ◌++◌, refl, subst, ◌∙◌}
+use Rattle.std.proofs.Common.{◌≡◌, ℕ, Bool, true, false, List, [], ◌∷◌, ◌++◌, refl, subst}
 use Rattle.ink_grammar.specs.declared.token.Keyword.TheVariants as keyword
 use Rattle.ink_grammar.specs.declared.token.Mark.TheVariants as mark
 use Rattle.ink_grammar.specs.declared.token.Shape.TheVariants as shape
@@ -8,7 +8,7 @@ use Rattle.ink_grammar.specs.declared.tree.OneChild.TheVariants as one_of
 use Rattle.ink_grammar.specs.declared.tree.TwoChildren.TheVariants as two_of
 use Rattle.ink_grammar.specs.declared.tree.ThreeChildren.TheVariants as three_of
 use Rattle.ink_grammar.specs.declared.tree.FourChildren.TheVariants as four_of
-use Rattle.ink_grammar.specs.Shapes.{same, stands}
+use Rattle.ink_grammar.specs.Shapes.{same}
 use Rattle.ink_grammar.specs.Tree.{Tree, Missing, One, Two, Three, Four, Found, leaf, no_items, nothing, node_one, node_two, node_three, node_four}
 use Rattle.ink_grammar.specs.Parts.{Block, Statements, MoreStatements, Statement, Chain, Conditional, ElseRest, ElseBranch, Primary}
 use Rattle.ink_grammar.specs.Productions.{Is, is_block, is_statements_1, is_statements_2, is_more_statements_1, is_more_statements_2, is_statement_2, is_conditional, is_else_rest_1, is_else_rest_2, is_else_branch_1, is_else_branch_2, is_recover_rest_1, is_recover_rest_2, is_primary_5, is_primary_6, is_primary_7}
@@ -23,7 +23,7 @@ use Rattle.ink_sorts.specs.Spells as spells
 use Rattle.ink_sorts.specs.Alike as alike
 use Rattle.ink_reparse.proofs.Steps.{Stepped, stop, put, last, next, one_child, two_children, three_children, four_children, step_one, step_two, step_three, step_four}
 use Rattle.ink_reparse.proofs.Words.{has, has_sign, Kept, TokenAt, token_at, word_read, bracket_alike}
-use Rattle.ink_reparse.proofs.Lists.{Each, Perhaps, left_out, there, ReadAs, Items, item, behind, body_of_each}
+use Rattle.ink_reparse.proofs.Lists.{Each, Perhaps, left_out, there, ReadAs, Items, item, body_of_each}
 use Rattle.ink_reparse.proofs.Places.{Headed, opens_fresh, At, at_widened, linkable_primary, chain_chained, ReadsAt, Expressed, base_form}
 use Rattle.ink_reparse.proofs.Chains.{RecoverKind}
 
@@ -136,9 +136,10 @@ conditional f g k l (next h (next m (next o (last q)))) = let b = k.plain _ _ _ 
 pub if_form : {source print : List ℕ} {s : ℕ} {a b c d : Tree} → Kept (λ y. y ≡ shape.Keyword keyword.If) a → Counts source print b → Blocked source print c → Perhaps (Branched source print) d → ConditionalTree source print (Four four_of.If s a b c d)
 unfolding printed
 if_form {s = s} {a = a} {b = b} {c = c} {d = d} f g k l = record {
-    expressed = base_form (fill (four_children a b c d) (first ∷ second_as place.Chain ∷ third ∷ fourth_as place.Otherwise ∷ [])) refl refl refl refl refl
+  expressed = base_form (fill (four_children a b c d) (first ∷ second_as place.Chain ∷ third ∷ fourth_as place.Otherwise ∷ [])) refl refl refl refl refl
       (λ line end us h. at_widened linkable_primary (at_widened (λ u v k. is_primary_5 u v k) (conditional f g k l (step_four four_of.If s a b c d place.Expression h))));
-    branched = record { plain = λ line end us h. at_widened (λ u v k. is_else_branch_2 u v k) (conditional f g k l (step_four four_of.If s a b c d place.Expression h)); otherwise = refl } }
+  branched = record { plain = λ line end us h. at_widened (λ u v k. is_else_branch_2 u v k) (conditional f g k l (step_four four_of.If s a b c d place.Expression h)); otherwise = refl };
+}
 
 -- loops
 while_kind : {t : Token} {u0 u1 : List Token} {v0 v1 : Found} → same (shape.Keyword keyword.While) t.shape ≡ true → ConditionKind u0 v0 → Is Block [] u1 v1 → Is Primary [] (t ∷ (u0 ++ u1)) (node_three three_of.While (leaf t) v0 v1)
@@ -165,4 +166,3 @@ loop f g (next h (last m)) = loop_of (word_read f h) (g.plain _ _ _ m)
 pub loop_form : {source print : List ℕ} {s : ℕ} {a b : Tree} → Kept (λ y. y ≡ shape.Keyword keyword.Loop) a → Blocked source print b → Expressed source print (Two two_of.Loop s a b)
 unfolding printed
 loop_form {s = s} {a = a} {b = b} f g = base_form (fill (two_children a b) (first ∷ second ∷ [])) refl refl refl refl refl (λ line end us h. at_widened linkable_primary (loop f g (step_two two_of.Loop s a b place.Expression h)))
-

@@ -1,7 +1,6 @@
 -- The tokens of a node, step by step.
 use Rattle.std.proofs.Common.{◌≡◌, ℕ, Bool, true, false, List, [], ◌∷◌, ◌++◌, Option, None, Some, refl, sym, ap, subst, ◌∙◌, append-nil}
 use Rattle.std.proofs.lemmas.List.{append_assoc}
-use Rattle.ink_grammar.specs.declared.token.Shape.{Shape}
 use Rattle.ink_grammar.specs.declared.token.Token.{Token}
 use Rattle.ink_grammar.specs.declared.tree.OneChild.{OneChild}
 use Rattle.ink_grammar.specs.declared.tree.TwoChildren.{TwoChildren}

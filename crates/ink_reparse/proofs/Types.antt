@@ -1,7 +1,6 @@
 -- Types are read as they were printed.
-use Rattle.std.proofs.Common.{◌≡◌, ℕ, Bool, true, false, List, [], ◌∷◌, ◌++◌, Option, None, Some, refl, sym, ap, subst, ◌∙◌, append-nil}
+use Rattle.std.proofs.Common.{◌≡◌, ℕ, Bool, true, false, List, [], ◌∷◌, ◌++◌, refl}
 use Rattle.ink_grammar.specs.declared.token.Mark.TheVariants as mark
-use Rattle.ink_grammar.specs.declared.token.Shape.{Shape}
 use Rattle.ink_grammar.specs.declared.token.Shape.TheVariants as shape
 use Rattle.ink_grammar.specs.declared.token.Token.{Token}
 use Rattle.ink_grammar.specs.declared.symbol.Wanted.TheVariants as wanted
@@ -9,20 +8,20 @@ use Rattle.ink_grammar.specs.declared.tree.TwoChildren.TheVariants as two_of
 use Rattle.ink_grammar.specs.declared.tree.ThreeChildren.TheVariants as three_of
 use Rattle.ink_grammar.specs.declared.tree.FourChildren.TheVariants as four_of
 use Rattle.ink_grammar.specs.Shapes.{same, is}
-use Rattle.ink_grammar.specs.Tree.{Tree, Leaf, Missing, Empty, Two, Three, Four, Found, leaf, no_items, nothing, node_two, node_three, node_four}
+use Rattle.ink_grammar.specs.Tree.{Tree, Two, Three, Four, Found, leaf, no_items, node_two, node_three, node_four}
 use Rattle.ink_grammar.specs.Parts.{FullType, BareType, TypeArguments, TypeArgumentsRest}
 use Rattle.ink_grammar.specs.Productions.{Is, is_full_type_1, is_full_type_2, is_bare_type_1, is_bare_type_2, is_tuple_type_rest_1, is_tuple_type_rest_2, is_type_arguments_1, is_type_arguments_2, is_type_arguments_rest_1, is_type_arguments_rest_2, is_type_arguments_more_2}
 use Rattle.ink_print.specs.declared.place.Place.TheVariants as place
 use Rattle.ink_print.specs.declared.step.Piece.TheVariants as piece
 use Rattle.ink_print.specs.declared.step.Sign.TheVariants as sign
 use Rattle.ink_print.specs.declared.step.Step.TheVariants as step
-use Rattle.ink_print.specs.Table.{first, second, third, fourth, first_as, second_as, third_as, fourth_as}
+use Rattle.ink_print.specs.Table.{first, second, third, fourth, second_as}
 use Rattle.ink_print.specs.Printed.{printed}
 use Rattle.ink_sorts.specs.Spells.{Spells}
 use Rattle.ink_sorts.specs.Alike as alike
 use Rattle.ink_reparse.proofs.Steps.{Stepped, stop, put, last, next, two_children, three_children, four_children, step_two, step_three, step_four}
-use Rattle.ink_reparse.proofs.Words.{has, has_sign, Kept, kept, TokenAt, token_at, word_read, bracket_alike}
-use Rattle.ink_reparse.proofs.Lists.{Each, EachOfSome, Perhaps, ReadAs, Items, item, Behind, behind, Again, widened, bracketed, enclosed_or_none}
+use Rattle.ink_reparse.proofs.Words.{has, has_sign, Kept, TokenAt, token_at, word_read, bracket_alike}
+use Rattle.ink_reparse.proofs.Lists.{EachOfSome, Perhaps, ReadAs, Items, item, Behind, behind, Again, widened, bracketed, enclosed_or_none}
 
 -- a tree that is read as a type of this kind, behind a colon and behind an arrow too
 pub record TypeOf (source print : List ℕ) (K : List Token → Found → Type 0) (a : Tree) : Type 0 where
@@ -87,8 +86,11 @@ plain_type g = record { plain = λ line end us h. widened (λ u v k. is_full_typ
 pair : {source print : List ℕ} {line end : Bool} {s : ℕ} {a b c : Tree} {us : List Token} → Kept (λ y. y ≡ shape.Mark mark.LeftParen) a → Typed source print b → Typed source print c
     → Stepped source print (three_children a b c) line (step.Sign sign.LeftParen ∷ second ∷ step.Sign sign.Comma ∷ third ∷ step.Sign sign.RightParen ∷ []) us end → ReadAs source print (Is BareType []) (Three three_of.PairType s a b c) us
 pair f g k (put {u = t0} n0 e0 (next h (put {u = t1} n1 e1 (next m (put {u = t2} n2 e2 stop))))) = let x = g.plain _ _ _ h in let y = k.plain _ _ _ m in
-    record { value = node_three three_of.PairType (leaf t0) x.value y.value; alike = alike.three (bracket_alike f refl e0) x.alike y.alike;
-      kind = is_bare_type_2 t0 _ _ t1 _ _ _ _ (has_sign e0) x.kind (has_sign e1) y.kind (is_tuple_type_rest_1 t2 (has_sign e2)) }
+    record {
+      value = node_three three_of.PairType (leaf t0) x.value y.value;
+      alike = alike.three (bracket_alike f refl e0) x.alike y.alike;
+      kind = is_bare_type_2 t0 _ _ t1 _ _ _ _ (has_sign e0) x.kind (has_sign e1) y.kind (is_tuple_type_rest_1 t2 (has_sign e2));
+    }
 
 pub pair_type : {source print : List ℕ} {s : ℕ} {a b c : Tree} → Kept (λ y. y ≡ shape.Mark mark.LeftParen) a → Typed source print b → Typed source print c → BareTyped source print (Three three_of.PairType s a b c)
 unfolding printed
@@ -97,8 +99,11 @@ pair_type {s = s} {a = a} {b = b} {c = c} f g k = record { plain = λ line end u
 triple : {source print : List ℕ} {line end : Bool} {s : ℕ} {a b c d : Tree} {us : List Token} → Kept (λ y. y ≡ shape.Mark mark.LeftParen) a → Typed source print b → Typed source print c → Typed source print d
     → Stepped source print (four_children a b c d) line (step.Sign sign.LeftParen ∷ second ∷ step.Sign sign.Comma ∷ third ∷ step.Sign sign.Comma ∷ fourth ∷ step.Sign sign.RightParen ∷ []) us end → ReadAs source print (Is BareType []) (Four four_of.TripleType s a b c d) us
 triple f g k l (put {u = t0} n0 e0 (next h (put {u = t1} n1 e1 (next m (put {u = t2} n2 e2 (next r (put {u = t3} n3 e3 stop))))))) = let x = g.plain _ _ _ h in let y = k.plain _ _ _ m in let z = l.plain _ _ _ r in
-    record { value = node_four four_of.TripleType (leaf t0) x.value y.value z.value; alike = alike.four (bracket_alike f refl e0) x.alike y.alike z.alike;
-      kind = is_bare_type_2 t0 _ _ t1 _ _ _ _ (has_sign e0) x.kind (has_sign e1) y.kind (is_tuple_type_rest_2 t2 _ _ t3 (has_sign e2) z.kind (has_sign e3)) }
+    record {
+      value = node_four four_of.TripleType (leaf t0) x.value y.value z.value;
+      alike = alike.four (bracket_alike f refl e0) x.alike y.alike z.alike;
+      kind = is_bare_type_2 t0 _ _ t1 _ _ _ _ (has_sign e0) x.kind (has_sign e1) y.kind (is_tuple_type_rest_2 t2 _ _ t3 (has_sign e2) z.kind (has_sign e3));
+    }
 
 pub triple_type : {source print : List ℕ} {s : ℕ} {a b c d : Tree} → Kept (λ y. y ≡ shape.Mark mark.LeftParen) a → Typed source print b → Typed source print c → Typed source print d → BareTyped source print (Four four_of.TripleType s a b c d)
 unfolding printed

@@ -1,15 +1,13 @@
 -- The tokens of words and signs.
-use Rattle.std.proofs.Common.{◌≡◌, ℕ, Bool, true, false, List, [], ◌∷◌, Option, None, Some, refl, sym, ap, subst, ◌∙◌}
+use Rattle.std.proofs.Common.{◌≡◌, ℕ, Bool, true, false, List, [], ◌∷◌, Some, refl, sym, ap, subst, ◌∙◌}
 use Rattle.ink_grammar.specs.declared.token.Shape.{Shape}
 use Rattle.ink_grammar.specs.declared.token.Shape.TheVariants as shape
 use Rattle.ink_grammar.specs.declared.token.Keyword.TheVariants as keyword
 use Rattle.ink_grammar.specs.declared.token.Mark.TheVariants as mark
 use Rattle.ink_grammar.specs.declared.token.Token.{Token}
-use Rattle.ink_grammar.specs.declared.symbol.Wanted.{Wanted}
 use Rattle.ink_grammar.specs.declared.symbol.Wanted.TheVariants as wanted
-use Rattle.ink_grammar.specs.Shapes.{same, is, number}
-use Rattle.ink_grammar.specs.Tree.{Tree, Leaf, Found, leaf}
-use Rattle.ink_print.specs.declared.place.Place.{Place}
+use Rattle.ink_grammar.specs.Shapes.{same, is}
+use Rattle.ink_grammar.specs.Tree.{Tree, Leaf}
 use Rattle.ink_print.specs.declared.place.Place.TheVariants as place
 use Rattle.ink_print.specs.declared.place.Rank.TheVariants as rank
 use Rattle.ink_print.specs.declared.step.Piece.TheVariants as piece
