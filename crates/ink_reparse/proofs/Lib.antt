@@ -1,0 +1,14 @@
+pub mod Steps
+pub mod Words
+pub mod Lists
+pub mod Types
+pub mod Places
+pub mod Chains
+pub mod Calls
+pub mod Patterns
+pub mod Primaries
+pub mod Statements
+pub mod Arms
+pub mod Methods
+pub mod Declarations
+pub mod Rereads
