@@ -9,7 +9,7 @@ use Rattle.ink_grammar.specs.Tree.{Tree}
 use Rattle.ink_grammar.specs.Language.{Parses}
 use Rattle.ink_reading.specs.Phases.{seen_by_grammar}
 use Rattle.ink_reading.specs.Reading.{ComesOnlyTo, Reads, Refuses}
-use Rattle.ink_print.specs.Layout.{print}
+use Rattle.ink_print.specs.Layout.{print as canonical}
 use Rattle.ink_sorts.specs.Alike.{Alike}
 
 -- the text has tokens that are a module, whose tree is this one but for the places of its tokens
@@ -19,3 +19,16 @@ pub record ReadsBack (source text : List ℕ) (tree : Tree) : Type 0 where
   pub lexed : AreTokens text tokens
   pub parsed : Parses (seen_by_grammar text tokens) again
   pub alike : Alike source text tree again
+
+-- a source that has these tokens and this tree, and no others, is printed as this text, which reads back
+pub record IsPrinted (limits source written : List ℕ) (tokens : List Token) (tree : Tree) : Type 0 where
+  pub read : ComesOnlyTo limits source (Reads tokens tree)
+  pub print : written ≡ canonical source tree
+  pub back : ReadsBack source written tree
+
+-- The answer is the print of the module that the source is, or the first rule that the source breaks; where there was
+-- no memory, nothing is known.
+abbrev pub Prints : List ℕ → List ℕ → Result Text JudgeFault → Type 0
+Prints limits source (Ok text) = (tokens : List Token) × (tree : Tree) × IsPrinted limits source text tokens tree
+Prints limits source (Err (Refused refusal)) = ComesOnlyTo limits source (Refuses refusal)
+Prints limits source (Err OutOfMemory) = Unit {0}

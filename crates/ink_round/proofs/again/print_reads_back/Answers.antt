@@ -1,12 +1,12 @@
-use Rattle.std.proofs.Common.{map}
 use Rattle.ink_reading.specs.Phases.{seen_by_grammar}
 use Rattle.ink_print.specs.Layout.{print}
 use Rattle.ink_round.proofs.again.print_reads_back.Goals as goal
 
 pub returns : goal.returns
-returns c = λ reparse relex source tokens tree are parses.
+returns c = λ source tokens tree are parses.
     let nests = c.tokens_nest.ensures source tokens are in
     let sorted = c.sorted_trees.ensures.sorted source (seen_by_grammar source tokens) tree nests parses in
-    let lexed = relex source tree sorted in
-    let again = reparse source (print source tree) tree (seen_by_grammar (print source tree) lexed.0) lexed.2 sorted lexed.3 in
+    let lexed = c.print_lexes.ensures source tree sorted in
+    let printed = print source tree in
+    let again = c.print_parses.ensures.parses source printed tree (seen_by_grammar printed lexed.0) lexed.2 sorted lexed.3 in
     record { tokens = lexed.0; again = again.0; lexed = lexed.1; parsed = again.1; alike = again.2 }
