@@ -1,9 +1,9 @@
 -- How words go on behind one of them, and where they leave the language.
-use Rattle.std.proofs.Common.{◌≡◌, ◌≢◌, ◌↔◌, ℕ, ◌+◌, ◌<◌, ◌≤◌, ◌⊎◌, inl, inr, Bool, true, false, List, [], ◌∷◌, ◌++◌, suc, length, take, Option, None, Some, refl, sym, ap, ◌∙◌, subst, arith, lit≤, append_assoc, append-nil, IfSome, IfNone}
+use Rattle.std.proofs.Common.{◌≡◌, ◌↔◌, ℕ, ◌+◌, ◌<◌, ◌≤◌, inl, inr, true, false, List, [], ◌∷◌, ◌++◌, suc, length, take, Option, None, Some, refl, sym, ap, ◌∙◌, subst, arith, lit≤, append_assoc, append-nil, IfSome, IfNone}
 use Rattle.std.specs.Prelude.{codes}
 use Rattle.std.proofs.lemmas.List.{take_all}
 use Rattle.std.specs.Fmt.{decimal}
-use Rattle.ink_base.specs.Limits.{option_word, IsInRange, default_numbers}
+use Rattle.ink_base.specs.Limits.{option_word, default_numbers}
 use Rattle.ink_base.specs.declared.limits.Limit.{Limit}
 use Rattle.ink_words.specs.declared.command.Command.{Command}
 use Rattle.ink_words.specs.declared.command.Command.TheVariants as command

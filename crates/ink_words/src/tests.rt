@@ -14,9 +14,22 @@ fn texts(alloc: Global, words: &[&[u8]]) -> Result<Vec<Text>, AllocError> {
     Ok(texts)
 }
 
+/// Whether the order runs or prints the file `F`, with these limits of the source, of the height and of the workers.
+fn gives(order: Order<'_>, runs: bool, numbers: [u64; 3]) -> bool {
+    let (is_run, file, limits) = match order {
+        Order::Run { file, limits } => (true, file, limits),
+        Order::Print { file, limits } => (false, file, limits),
+    };
+    let [source, height, workers] = numbers;
+    is_run == runs
+        && file.is(b"F")
+        && limits.get(Limit::Source) == source
+        && limits.get(Limit::Height) == height
+        && limits.get(Limit::Workers) == workers
+}
+
 #[test]
 fn options_stand_anywhere(rt: HostRuntime) -> Result<(), Fail> {
-    // Each with the limits of the source, of the height and of the workers.
     let rows: [(&[&[u8]], [u64; 3]); 6] = [
         (&[b"run", b"F"], [1048576, 200, 4]),
         (&[b"run", b"F", b"--workers", b"64"], [1048576, 200, 64]),
@@ -50,13 +63,8 @@ fn options_stand_anywhere(rt: HostRuntime) -> Result<(), Fail> {
     for (words, numbers) in rows {
         let words = texts(rt.alloc(), words)?;
         match read_words(&words) {
-            Ok(Order::Run { file, limits }) => {
-                assert!(rt; file.is(b"F"));
-                assert_eq!(rt; limits.get(Limit::Source), numbers[0]);
-                assert_eq!(rt; limits.get(Limit::Height), numbers[1]);
-                assert_eq!(rt; limits.get(Limit::Workers), numbers[2]);
-            }
-            _ => assert!(rt; false),
+            Ok(order) => assert!(rt; gives(order, true, numbers)),
+            Err(_) => assert!(rt; false),
         }
     }
     Ok(())
@@ -66,12 +74,8 @@ fn options_stand_anywhere(rt: HostRuntime) -> Result<(), Fail> {
 fn print_has_its_options(rt: HostRuntime) -> Result<(), Fail> {
     let words = texts(rt.alloc(), &[b"print", b"--max-height", b"7", b"F"])?;
     match read_words(&words) {
-        Ok(Order::Print { file, limits }) => {
-            assert!(rt; file.is(b"F"));
-            assert_eq!(rt; limits.get(Limit::Height), 7);
-            assert_eq!(rt; limits.get(Limit::Source), 1048576);
-        }
-        _ => assert!(rt; false),
+        Ok(order) => assert!(rt; gives(order, false, [1048576, 7, 4])),
+        Err(_) => assert!(rt; false),
     }
     Ok(())
 }

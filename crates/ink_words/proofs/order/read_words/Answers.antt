@@ -1,4 +1,3 @@
-use Rattle.std.proofs.Common.{◌≡◌, sym, ap, ◌∙◌}
 use Rattle.ink_words.proofs.WordLemmas.{nothing, no_command, wrong_command, wrong_behind, only_order}
 use Rattle.ink_words.proofs.order.read_words.Goals as goal
 
