@@ -9,8 +9,10 @@ use ink_base::{Limit, Text};
 
 /// What the first word asks for.
 #[derive(Clone, Copy, Debug, PartialEq, Eq)]
-pub(crate) enum Command {
+pub enum Command {
+    /// The module of a file is run.
     Run,
+    /// The module of a file is printed.
     Print,
 }
 

@@ -11,4 +11,5 @@ mod order;
 #[cfg(test)]
 mod tests;
 
+pub use command::Command;
 pub use order::{Order, read_words};
