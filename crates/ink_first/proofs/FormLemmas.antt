@@ -1,5 +1,5 @@
 -- What stands at the front of the words of a source.
-use Rattle.std.proofs.Common.{◌≡◌, ◌≢◌, ◌↔◌, ℕ, ◌+◌, ◌<◌, ◌≤◌, List, [], ◌∷◌, ◌++◌, ◌⊎◌, inl, inr, length, take, drop, map, get_or, Option, None, Some, Result, Ok, Err, Vec, refl, sym, ap, ◌∙◌, subst, arith, append_assoc, append-nil, take-append-drop, IfNone}
+use Rattle.std.proofs.Common.{◌≡◌, ◌↔◌, ℕ, ◌+◌, ◌<◌, List, [], ◌∷◌, ◌++◌, ◌⊎◌, inl, inr, length, take, drop, get_or, Option, None, Some, Result, Ok, Err, Vec, refl, sym, ap, ◌∙◌, subst, arith, append_assoc, append-nil, take-append-drop, IfNone}
 use Rattle.std.proofs.lemmas.List.{take_more, drop_more, append_cancel_left}
 use Rattle.std.specs.declared.alloc.Global.{Global}
 use Rattle.ink_base.specs.declared.token.Token.{Token}

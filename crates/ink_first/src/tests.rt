@@ -8,7 +8,7 @@ use std::test::Fail;
 /// The tokens of these kinds and texts, and the source that has them one behind the other.
 fn tokens(
     alloc: Global,
-    words: &[(TokenKind, &[u8])],
+    words: &[(TokenKind, &'static [u8])],
 ) -> Result<(Vec<u8>, Vec<Token>), AllocError> {
     let mut source = Vec::new(alloc);
     let mut tokens = Vec::new(alloc);
@@ -27,7 +27,7 @@ fn tokens(
     Ok((source, tokens))
 }
 
-const HEAD: [(TokenKind, &[u8]); 15] = [
+const HEAD: [(TokenKind, &'static [u8]); 15] = [
     (TokenKind::Keyword, b"import"),
     (TokenKind::Name, b"std"),
     (TokenKind::Symbol, b"."),
@@ -45,7 +45,7 @@ const HEAD: [(TokenKind, &[u8]); 15] = [
     (TokenKind::Symbol, b"{"),
 ];
 
-const CALL: [(TokenKind, &[u8]); 6] = [
+const CALL: [(TokenKind, &'static [u8]); 6] = [
     (TokenKind::Const, b"Stdout"),
     (TokenKind::Symbol, b"."),
     (TokenKind::Name, b"new"),
@@ -54,17 +54,17 @@ const CALL: [(TokenKind, &[u8]); 6] = [
     (TokenKind::Symbol, b"("),
 ];
 
-const QUOTE: (TokenKind, &[u8]) = (TokenKind::Quote, b"'");
+const QUOTE: (TokenKind, &'static [u8]) = (TokenKind::Quote, b"'");
 
-const CLOSE: (TokenKind, &[u8]) = (TokenKind::Symbol, b")");
+const CLOSE: (TokenKind, &'static [u8]) = (TokenKind::Symbol, b")");
 
-const BRACE: (TokenKind, &[u8]) = (TokenKind::Symbol, b"}");
+const BRACE: (TokenKind, &'static [u8]) = (TokenKind::Symbol, b"}");
 
 /// The texts of a module whose statements have these tokens between their parentheses.
 fn texts_of(
     alloc: Global,
-    arguments: &[&[(TokenKind, &[u8])]],
-    end: &[(TokenKind, &[u8])],
+    arguments: &[&[(TokenKind, &'static [u8])]],
+    end: &[(TokenKind, &'static [u8])],
 ) -> Result<Option<Vec<Text>>, AllocError> {
     let mut words = Vec::from_slice(alloc, &HEAD)?;
     for argument in arguments {
@@ -102,8 +102,8 @@ fn texts_of_statements(rt: HostRuntime) -> Result<(), Fail> {
 fn other_modules_have_none(rt: HostRuntime) -> Result<(), Fail> {
     let alloc = rt.alloc();
     let end = [BRACE, BRACE];
-    let double: (TokenKind, &[u8]) = (TokenKind::Quote, b"\"");
-    let others: [&[(TokenKind, &[u8])]; 6] = [
+    let double: (TokenKind, &'static [u8]) = (TokenKind::Quote, b"\"");
+    let others: [&[(TokenKind, &'static [u8])]; 6] = [
         &[QUOTE, (TokenKind::Part, b"it\\'s"), QUOTE],
         &[QUOTE, (TokenKind::Part, b"a$b"), QUOTE],
         &[QUOTE, (TokenKind::Part, b"\xC3\xA9"), QUOTE],

@@ -90,7 +90,7 @@ did_source : (asked : Asked) (cause : Cause) (words : List Word) (directory : Op
     → Came asked.command asked.limits cause bytes journal old new ⊎ (IsUntouched journal old new × IsFault cause)
 did_source asked cause words directory reads-old reads-new journal old new bytes takes did = elim did [
   | inl it ↦ inl (subst (λ (b : List ℕ). Came asked.command asked.limits cause b journal old new)
-    (source_is_read words directory asked bytes it.0 takes it.1) it.3)
+      (source_is_read words directory asked bytes it.0 takes it.1) it.3)
   | inr it ↦ inr (it.0, unread_is_fault cause asked.file reads-old reads-new it.1)
 ]
 
@@ -102,9 +102,9 @@ performed_source : (asked : Asked) (cause : Cause) (file : Word) (words : List W
 performed_source asked cause file words directory reads-old reads-new journal old new bytes takes performed = elim performed [
   | inl usage ↦ absurd (no_wrong_word words usage.0 (asked, takes_order words directory asked bytes takes) usage.2)
   | inr ran ↦
-    let same : ran.0 ≡ asked = sym (ran.2 asked (takes_order words directory asked bytes takes)) in
-    did_source asked cause words directory reads-old reads-new journal old new bytes takes
-    (subst (λ (a : Asked). Did a cause directory reads-old reads-new journal old new) same ran.4)
+      let same : ran.0 ≡ asked = sym (ran.2 asked (takes_order words directory asked bytes takes)) in
+      did_source asked cause words directory reads-old reads-new journal old new bytes takes
+      (subst (λ (a : Asked). Did a cause directory reads-old reads-new journal old new) same ran.4)
 ]
 
 -- verdicts that differ
@@ -399,7 +399,7 @@ performed_means cause file words directory reads-old reads-new journal old new e
       | inl usage ↦ subst M (sym usage.1) usage.2
       | inr ran ↦ elim ran.4 [
         | inl it ↦ came_means words directory ran.0.command ran.0.limits it.0 journal reads-old reads-new old new err-old err-new cause
-          (ran.0.file, ran.1, it.1) it.3
+            (ran.0.file, ran.1, it.1) it.3
         | inr it ↦ elim it.1 [
           | inl unread ↦ subst M (sym unread.0) (ran.0, ran.1, unread.1, unread.2)
           | inr memory ↦ subst M (sym memory.0) tt
