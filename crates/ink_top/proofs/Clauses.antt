@@ -1,5 +1,5 @@
 -- From what came of the words, and what was told of it, to the clauses of the top call.
-use Rattle.std.proofs.Common.{◌≡◌, ℕ, ◌+◌, ◌<◌, ◌≤◌, ◌⊎◌, inl, inr, List, [], ◌∷◌, ◌++◌, suc, length, take, drop, Option, None, Some, option_map, refl, sym, ap, subst, ◌∙◌, arith, take-append-drop, append_assoc}
+use Rattle.std.proofs.Common.{◌≡◌, ℕ, ◌+◌, ◌<◌, ◌≤◌, ◌⊎◌, inl, inr, List, [], ◌++◌, suc, take, drop, Option, None, Some, refl, sym, ap, subst, ◌∙◌, arith, take-append-drop, append_assoc}
 use Rattle.std.proofs.lemmas.List.{take-take}
 use Rattle.std.proofs.Math.Nat.{eq-or-lt_of_le}
 use Rattle.std.proofs.lemmas.Bool.{cases_order}

@@ -1,16 +1,16 @@
 -- A source has one verdict.
-use Rattle.std.proofs.Common.{◌≡◌, ◌≢◌, ℕ, List, [], ◌∷◌, length, arith, ◌==◌, true, false, Option, None, Some, Result, Ok, Err, Vec, inl, inr, refl, sym, ap, ◌∙◌, subst}
+use Rattle.std.proofs.Common.{◌≡◌, ◌≢◌, ℕ, List, [], ◌∷◌, length, arith, ◌==◌, true, false, Option, None, Some, Result, Ok, Err, Vec, inl, inr, refl, sym, ap, subst}
 use Rattle.std.proofs.lemmas.Bool.Decides.{nat_tests}
 use Rattle.ink_base.specs.declared.token.Token.{Token}
 use Rattle.ink_base.specs.declared.refusal.Refusal.{Refusal}
 use Rattle.ink_base.specs.declared.refusal.JudgeFault.{JudgeFault}
 use Rattle.ink_base.specs.declared.refusal.JudgeFault.TheVariants as fault
 use Rattle.ink_grammar.specs.Tree.{Tree}
-use Rattle.ink_reading.specs.Reading.{Outcome, Reads, Refuses, ComesTo, ComesOnlyTo, Answers}
+use Rattle.ink_reading.specs.Reading.{Reads, Refuses, ComesTo, ComesOnlyTo, Answers}
 use Rattle.ink_first.specs.FirstForm.{IsFirstForm}
 use Rattle.ink_first.specs.Reading.{Finds}
 use Rattle.std.specs.declared.alloc.Global.{Global}
-use Rattle.ink_top.specs.Verdict.{no_main, IsAccepted, IsRefused, IsUnbuilt, Verdict, Accepted, Refused, Unbuilt, IsVerdict, IsOnlyVerdict, Judges}
+use Rattle.ink_top.specs.Verdict.{no_main, Verdict, Accepted, Refused, Unbuilt, IsVerdict, IsOnlyVerdict, Judges}
 use Rattle.ink_top.specs.World.{Program}
 use Rattle.ink_top.specs.declared.verdict.Form.{Form}
 use Rattle.ink_top.specs.declared.verdict.Form.TheVariants as form

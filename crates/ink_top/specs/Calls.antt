@@ -1,5 +1,5 @@
 -- What comes of a source, of a file and of the words, before it is told.
-use Rattle.std.specs.Prelude.{◌≡◌, ℕ, ◌+◌, ◌<◌, ◌⊎◌, ⊤, List, [], take, Option, None, Some, option_map}
+use Rattle.std.specs.Prelude.{◌≡◌, ℕ, ◌+◌, ◌<◌, ◌⊎◌, List, [], Option, Some}
 use Rattle.ink_base.specs.Limits.{limit_of}
 use Rattle.ink_base.specs.declared.limits.Limit.TheVariants.{Source}
 use Rattle.ink_base.specs.Outside.{Directory, Reads, CountsFault, CutsWrite}
@@ -8,7 +8,7 @@ use Rattle.ink_words.specs.declared.command.Command.{Command}
 use Rattle.ink_words.specs.declared.command.Command.TheVariants as command
 use Rattle.ink_words.specs.Commands.{Word, Asked, IsOrder, IsWrongWord}
 use Rattle.ink_reading.specs.Reading as reading
-use Rattle.ink_top.specs.Causes.{cause_text, IsFault}
+use Rattle.ink_top.specs.Causes.{cause_text}
 use Rattle.ink_top.specs.Runs.{SinkState, Gets, Replays, ReplaysCut}
 use Rattle.ink_top.specs.Verdict.{IsOnlyVerdict, IsPrint}
 use Rattle.ink_top.specs.Verdict as verdict

@@ -1,5 +1,5 @@
 -- What becomes of a source: of one that is to run, and of one that is to be printed.
-use Rattle.std.specs.Prelude.{◌≡◌, ◌≢◌, ℕ, ◌⊎◌, List, [], None, Some, Result, Ok, Err}
+use Rattle.std.specs.Prelude.{◌≡◌, ◌≢◌, ℕ, ◌⊎◌, List, [], None, Result, Ok, Err}
 use Rattle.ink_base.specs.declared.token.Token.{Token}
 use Rattle.ink_base.specs.declared.text.Text.{Text}
 use Rattle.ink_base.specs.declared.refusal.Refusal.{Refusal}

@@ -1,5 +1,4 @@
-use Rattle.std.proofs.Common.{◌≡◌, ℕ, [], ◌==◌, true, false, Ok, length, refl, sym, ap, ◌∙◌, arith}
-use Rattle.std.specs.Vec.{vec_len}
+use Rattle.std.proofs.Common.{Ok, sym, ap, ◌∙◌}
 use Rattle.std.proofs.lemmas.Result.{err_from_is_err_and}
 use Rattle.ink_top.proofs.Verdicts.{not_read, is_no_main, no_item, some_item, form_found, form_missed}
 use Rattle.ink_top.proofs.verdict.judge.Goals as goal
