@@ -1,3 +1,3 @@
 pub mod Clauses
 pub mod Stands
-pub mod WrongWords
+pub mod Verdicts

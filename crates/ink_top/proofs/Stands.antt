@@ -3,7 +3,7 @@ use Rattle.std.proofs.Common.{◌+◌, suc, length, drop, get_or, drop-cons, add
 use Rattle.std.specs.Option.{option_and_then}
 use Rattle.ink_base.specs.Outside.{appended, CutsWrite}
 use Rattle.ink_base.proofs.Appended.{appended-appended}
-use Rattle.ink_top.specs.World.{Program, World, replay, turns, turn, opening_world, IsQuiet, IsCut, line_of}
+use Rattle.ink_top.specs.World.{Program, World, replay, turns, turn, opening_world, IsQuiet, line_of}
 use Rattle.ink_top.specs.Runs.{SinkState, Gets, Prints, Replays, ReplaysCut, Runs}
 use Rattle.ink_top.specs.declared.run.RunFault.{RunFault}
 use Rattle.ink_top.specs.declared.run.RunFault.TheVariants.{SinkFailed, OutOfMemory}

@@ -1,6 +1,5 @@
 pub mod Calls
 pub mod Causes
-pub mod Commands
 pub mod Headline
 pub mod Runs
 pub mod Verdict

@@ -1,30 +1,75 @@
-use Rattle.std.specs.Prelude.{◌≡◌, ℕ, ◌≤◌, ⊤, List, length}
+-- What becomes of a source: of one that is to run, and of one that is to be printed.
+use Rattle.std.specs.Prelude.{◌≡◌, ◌≢◌, ℕ, ◌⊎◌, List, [], None, Result, Ok, Err}
+use Rattle.ink_base.specs.declared.token.Token.{Token}
+use Rattle.ink_base.specs.declared.text.Text.{Text}
 use Rattle.ink_base.specs.declared.refusal.Refusal.{Refusal}
-use Rattle.ink_parse.specs.declared.fault.PlainFault.{PlainFault}
-use Rattle.ink_parse.specs.declared.fault.PlainFault.TheVariants as fault
-use Rattle.ink_parse.specs.FirstForm.{IsFirstForm, not_built}
+use Rattle.ink_base.specs.declared.refusal.Rule.TheVariants.{NoMain}
+use Rattle.ink_base.specs.declared.refusal.JudgeFault.{JudgeFault}
+use Rattle.ink_base.specs.declared.refusal.JudgeFault.TheVariants as fault
+use Rattle.ink_grammar.specs.Tree.{Tree}
+use Rattle.ink_reading.specs.Reading.{Reads, Refuses, ComesTo, ComesOnlyTo}
+use Rattle.ink_print.specs.Layout.{print}
+use Rattle.ink_first.specs.FirstForm.{IsFirstForm}
 use Rattle.ink_top.specs.World.{Program}
+use Rattle.ink_top.specs.declared.verdict.Form.{Form}
+use Rattle.ink_top.specs.declared.verdict.Form.TheVariants as form
 
--- the bytes of source that are read at most
-abbrev pub source_limit : ℕ
-source_limit = 1048576
+-- the refusal of a source that has no token
+abbrev pub no_main : Refusal
+no_main = record { rule = NoMain; place = record { line = 1; column = 1; byte = 0 }; detail = None }
 
--- the bytes are a module that is accepted, and its main prints these texts
-pub record IsAccepted (bytes : List ℕ) (program : Program) : Type 0 where
-  pub small : length bytes ≤ source_limit
-  pub form : IsFirstForm bytes program
+-- the bytes are a module of the first form, and its main prints these texts
+pub record IsAccepted (limits bytes : List ℕ) (program : Program) : Type 0 where
+  pub tokens : List Token
+  pub tree : Tree
+  pub reads : ComesTo limits bytes (Reads tokens tree)
+  pub form : IsFirstForm bytes tokens program
 
--- the bytes are no module that is accepted, which this refusal says
-pub record IsRefused (bytes : List ℕ) (refusal : Refusal) : Type 0 where
-  pub told : refusal ≡ not_built
-  pub no_module : (program : Program) → IsAccepted bytes program → ⊥
+-- the bytes break a phase of the reading, which this refusal says, or are read and have no token
+abbrev pub IsRefused : List ℕ → List ℕ → Refusal → Type 0
+IsRefused limits bytes refusal =
+    ComesTo limits bytes (Refuses refusal) ⊎ ((tree : Tree) × ComesTo limits bytes (Reads [] tree) × (refusal ≡ no_main))
 
--- what an answer without texts says of the bytes
-abbrev pub RefusesSource : PlainFault → List ℕ → Type 0
-RefusesSource (fault.Refused refusal) bytes = IsRefused bytes refusal
-RefusesSource fault.OutOfMemory bytes = ⊤
+-- the bytes are a module that is read, has a token, and isn't of the first form
+pub record IsUnbuilt (limits bytes : List ℕ) : Type 0 where
+  pub tokens : List Token
+  pub tree : Tree
+  pub reads : ComesTo limits bytes (Reads tokens tree)
+  pub some : tokens ≢ []
+  pub no_form : (program : Program) → IsFirstForm bytes tokens program → ⊥
 
--- the bytes are a module that is accepted, and its main prints these texts and no others
-pub record Accepts (bytes : List ℕ) (program : Program) : Type 0 where
-  pub accepted : IsAccepted bytes program
-  pub only : (other : Program) → IsAccepted bytes other → other ≡ program
+-- what becomes of a source that is to run
+pub data Verdict : Type 0 where
+  Accepted : (program : Program) → Verdict
+  Refused : (refusal : Refusal) → Verdict
+  Unbuilt : Verdict
+
+abbrev pub IsVerdict : List ℕ → List ℕ → Verdict → Type 0
+IsVerdict limits bytes (Accepted program) = IsAccepted limits bytes program
+IsVerdict limits bytes (Refused refusal) = IsRefused limits bytes refusal
+IsVerdict limits bytes Unbuilt = IsUnbuilt limits bytes
+
+-- this becomes of it, and nothing else
+pub record IsOnlyVerdict (limits bytes : List ℕ) (verdict : Verdict) : Type 0 where
+  pub is : IsVerdict limits bytes verdict
+  pub only : (other : Verdict) → IsVerdict limits bytes other → other ≡ verdict
+
+-- the answer is the verdict; where there was no memory, nothing is known
+abbrev pub Judges : List ℕ → List ℕ → Result Form JudgeFault → Type 0
+Judges limits bytes (Ok (form.First texts)) = IsOnlyVerdict limits bytes (Accepted texts.items)
+Judges limits bytes (Ok form.Other) = IsOnlyVerdict limits bytes Unbuilt
+Judges limits bytes (Err (fault.Refused refusal)) = IsOnlyVerdict limits bytes (Refused refusal)
+Judges limits bytes (Err fault.OutOfMemory) = Unit {0}
+
+-- the bytes are read as a module, and this is its canonical print
+pub record IsPrint (limits bytes text : List ℕ) : Type 0 where
+  pub tokens : List Token
+  pub tree : Tree
+  pub reads : ComesOnlyTo limits bytes (Reads tokens tree)
+  pub print : text ≡ print bytes tree
+
+-- the answer is the print of the one tree that the bytes are, or the refusal that they come to
+abbrev pub PrintsSource : List ℕ → List ℕ → Result Text JudgeFault → Type 0
+PrintsSource limits bytes (Ok text) = IsPrint limits bytes text
+PrintsSource limits bytes (Err (fault.Refused refusal)) = ComesOnlyTo limits bytes (Refuses refusal)
+PrintsSource limits bytes (Err fault.OutOfMemory) = Unit {0}

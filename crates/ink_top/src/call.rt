@@ -1,30 +1,40 @@
-//! The call of the program: words, the source, the verdict, the run, and what is told of the cause.
-ghost use Rattle.std.specs.Prelude.{◌≡◌, ◌<◌, ◌≤◌, []};
-ghost use Rattle.ink_base.specs.Outside.{greatest_count};
-ghost use Rattle.ink_top.specs.Calls.{IsToldLast, Performed, Ran, RanSource, Tells};
+//! The call of the program: words, the source, the run or the print, and what is told of the cause.
+ghost use Rattle.std.specs.Prelude.{◌≡◌, ◌<◌, ◌≤◌, [], IfOk, OnOk, IfErr};
+ghost use Rattle.ink_base.specs.Outside.{greatest_count, Reads};
+ghost use Rattle.ink_words.specs.declared.command.Command.TheVariants.{Run, Print};
+ghost use Rattle.ink_words.specs.Commands.{asked, asked_by};
+ghost use Rattle.ink_top.specs.Calls.{most_read, IsUnread, IsToldLast, Did, Performed, PrintedSource, RanSource, Tells};
 ghost use Rattle.ink_top.specs.Causes.{status_of};
-ghost use Rattle.ink_top.specs.Headline.{RefusesModule, WritesOutput, ReachesEnd, RefusesWords, Means, ShowsFaults, TellsCause};
+ghost use Rattle.ink_top.specs.Headline.{RefusesModule, LeavesUnbuilt, WritesOutput, ReachesEnd, WritesPrint, RefusesWords, Means, ShowsFaults, TellsCause};
 ghost use Rattle.ink_top.specs.Runs.{state_of};
 
 use crate::cause::Cause;
-use crate::judge::{MOST_SOURCE, judge};
 use crate::run::{RunFault, run};
-use crate::words::read_words;
-use ink_base::{FileFault, Files, Gate, Journal, Sink, Text, write_whole};
-use ink_parse::PlainFault;
+use crate::verdict::{Form, judge, print_source};
+use ink_base::{
+    Failed, FileFault, Files, Gate, Journal, JudgeFault, Limit, Limits, Sink, Text, write_whole,
+};
+use ink_words::{Order, read_words};
 use std::alloc::Global;
 
 /// Judges a source, and runs it where it is accepted.
-fn run_source<K: Sink>(alloc: Global, source: &[u8], journal: &mut Journal, out: &mut K) -> Cause
+fn run_source<K: Sink>(
+    alloc: Global,
+    source: &[u8],
+    limits: &Limits,
+    journal: &mut Journal,
+    out: &mut K,
+) -> Cause
     requires empty { journal.old.entries ≡ [] }
     requires faults { K.faults out.old < greatest_count }
-    ensures { RanSource result source.now journal.new.entries
+    ensures { RanSource limits.now result source.now journal.new.entries
         (state_of K.contents K.faults out.old) (state_of K.contents K.faults out.new) }
 {
-    match judge(alloc, source) {
-        Err(PlainFault::Refused(refusal)) => Cause::Refused(refusal),
-        Err(PlainFault::OutOfMemory) => Cause::OutOfMemory,
-        Ok(texts) => match run(alloc, &texts, journal, out) {
+    match judge(alloc, source, limits) {
+        Err(JudgeFault::Refused(refusal)) => Cause::Refused(refusal),
+        Err(JudgeFault::OutOfMemory) => Cause::OutOfMemory,
+        Ok(Form::Other) => Cause::Unbuilt,
+        Ok(Form::First(texts)) => match run(alloc, &texts, journal, out) {
             Ok(()) => Cause::Quiet,
             Err(RunFault::SinkFailed) => Cause::WriteFault,
             Err(RunFault::OutOfMemory) => Cause::OutOfMemory,
@@ -32,10 +42,48 @@ fn run_source<K: Sink>(alloc: Global, source: &[u8], journal: &mut Journal, out:
     }
 }
 
+/// Writes the canonical print of a source, where it is read.
+fn write_print<K: Sink>(alloc: Global, source: &[u8], limits: &Limits, out: &mut K) -> Cause
+    requires { K.faults out.old < greatest_count }
+    ensures { PrintedSource limits.now result source.now
+        (state_of K.contents K.faults out.old) (state_of K.contents K.faults out.new) }
+{
+    match print_source(alloc, source, limits) {
+        Err(JudgeFault::Refused(refusal)) => Cause::Refused(refusal),
+        Err(JudgeFault::OutOfMemory) => Cause::OutOfMemory,
+        Ok(text) => match write_whole(out, text.bytes()) {
+            Ok(()) => Cause::Written,
+            Err(Failed) => Cause::WriteFault,
+        },
+    }
+}
+
+/// The first bytes of a file, one more than a source may have, so that a longer one shows.
+fn read_source<F: Files>(
+    alloc: Global,
+    file: &Text,
+    limits: &Limits,
+    files: &mut F,
+) -> Result<Vec<u8>, Cause>
+    requires { (F.read_faults files.old).count < greatest_count }
+    ensures bytes { IfOk result (λ source. Reads (F.held files.old) file.now (most_read limits.now) source.items) }
+    ensures read { OnOk result (F.read_faults files.new ≡ F.read_faults files.old) }
+    ensures unread { IfErr result (λ cause. IsUnread cause file.now (F.read_faults files.old) (F.read_faults files.new)) }
+    ensures held { F.held files.new ≡ F.held files.old }
+    ensures write_faults { F.write_faults files.new ≡ F.write_faults files.old }
+{
+    match files.read(alloc, file, limits.get(Limit::Source) + 1) {
+        Err(FileFault::Failed) => Err(Cause::ReadFault),
+        Err(FileFault::OutOfMemory) => Err(Cause::OutOfMemory),
+        Ok(source) => Ok(source),
+    }
+}
+
 /// Reads a file, judges it, and runs it where it is accepted.
 fn run_file<F: Files, K: Sink>(
     alloc: Global,
     file: &Text,
+    limits: &Limits,
     files: &mut F,
     journal: &mut Journal,
     out: &mut K,
@@ -43,27 +91,76 @@ fn run_file<F: Files, K: Sink>(
     requires empty { journal.old.entries ≡ [] }
     requires read_faults { (F.read_faults files.old).count < greatest_count }
     requires faults { K.faults out.old < greatest_count }
-    ensures ran { Ran result file.now (F.held files.old) (F.read_faults files.old) (F.read_faults files.new)
+    ensures did { Did (asked Run file.now limits.now) result (F.held files.old) (F.read_faults files.old) (F.read_faults files.new)
         journal.new.entries (state_of K.contents K.faults out.old) (state_of K.contents K.faults out.new) }
     ensures held { F.held files.new ≡ F.held files.old }
     ensures write_faults { F.write_faults files.new ≡ F.write_faults files.old }
 {
-    match files.read(alloc, file, MOST_SOURCE as u64 + 1) {
-        Err(FileFault::Failed) => Cause::ReadFault,
-        Err(FileFault::OutOfMemory) => Cause::OutOfMemory,
-        Ok(source) => run_source(alloc, &source, journal, out),
+    match read_source(alloc, file, limits, files) {
+        Err(cause) => cause,
+        Ok(source) => run_source(alloc, &source, limits, journal, out),
     }
 }
 
-/// What came of the words before it is told: the cause, and the name of the file that they run, empty where they
-/// run none.
+/// Reads a file, and writes its canonical print.
+fn print_file<F: Files, K: Sink>(
+    alloc: Global,
+    file: &Text,
+    limits: &Limits,
+    files: &mut F,
+    out: &mut K,
+) -> Cause
+    requires read_faults { (F.read_faults files.old).count < greatest_count }
+    requires faults { K.faults out.old < greatest_count }
+    ensures did { Did (asked Print file.now limits.now) result (F.held files.old) (F.read_faults files.old) (F.read_faults files.new)
+        [] (state_of K.contents K.faults out.old) (state_of K.contents K.faults out.new) }
+    ensures held { F.held files.new ≡ F.held files.old }
+    ensures write_faults { F.write_faults files.new ≡ F.write_faults files.old }
+{
+    match read_source(alloc, file, limits, files) {
+        Err(cause) => cause,
+        Ok(source) => write_print(alloc, &source, limits, out),
+    }
+}
+
+/// What came of the words before it is told: the cause, and the name of the file that they name, empty where they
+/// name none.
 #[derive(Drop)]
 struct Found<'a> {
     cause: Cause,
     file: &'a [u8],
 }
 
-/// Reads the words, and runs the file that they name.
+/// Does what an order asks for.
+fn obey<'a, F: Files, K: Sink>(
+    alloc: Global,
+    order: Order<'a>,
+    files: &mut F,
+    journal: &mut Journal,
+    out: &mut K,
+) -> Found<'a>
+    requires empty { journal.old.entries ≡ [] }
+    requires read_faults { (F.read_faults files.old).count < greatest_count }
+    requires faults { K.faults out.old < greatest_count }
+    ensures did { Did (asked_by order.entry) result.cause (F.held files.old) (F.read_faults files.old) (F.read_faults files.new)
+        journal.new.entries (state_of K.contents K.faults out.old) (state_of K.contents K.faults out.new) }
+    ensures file { (asked_by order.entry).file ≡ result.file.now }
+    ensures held { F.held files.new ≡ F.held files.old }
+    ensures write_faults { F.write_faults files.new ≡ F.write_faults files.old }
+{
+    match order {
+        Order::Run { file, limits } => Found {
+            cause: run_file(alloc, file, &limits, files, journal, out),
+            file: file.bytes(),
+        },
+        Order::Print { file, limits } => Found {
+            cause: print_file(alloc, file, &limits, files, out),
+            file: file.bytes(),
+        },
+    }
+}
+
+/// Reads the words, and does what they ask for.
 fn perform<'a, F: Files, K: Sink>(
     alloc: Global,
     words: &'a [Text],
@@ -85,10 +182,7 @@ fn perform<'a, F: Files, K: Sink>(
             cause: Cause::Usage(number),
             file: b"",
         },
-        Ok(file) => Found {
-            cause: run_file(alloc, file, files, journal, out),
-            file: file.bytes(),
-        },
+        Ok(order) => obey(alloc, order, files, journal, out),
     }
 }
 
@@ -130,10 +224,11 @@ pub struct Ended<K> {
     pub out: K,
 }
 
-/// Does what the words ask for: `run FILE`, with `--workers` and a number from 1 to 64, which changes nothing yet.
+/// Does what the words ask for: `run FILE` or `print FILE`, with their options. The number of workers changes nothing yet.
 ///
-/// The source is judged and, where it is accepted, run; its output goes to `out`. Why the call ended is told on `err`
-/// in one line, unless the run came to its end. No worker enters the gate before there are several.
+/// `run` judges the source and, where it is accepted, runs it; its output goes to `out`. `print` writes the canonical
+/// print of the source to `out`. Why the call ended is told on `err` in one line, unless a run came to its end or a print
+/// was written. No worker enters the gate before there are several.
 pub fn inko_main<F: Files, K: Sink + Send, E: Sink, G: Gate + Sync>(
     alloc: Global,
     words: &[Text],
@@ -148,9 +243,13 @@ pub fn inko_main<F: Files, K: Sink + Send, E: Sink, G: Gate + Sync>(
 
     ensures refused_module { RefusesModule words.now (F.held files.old) result.cause result.journal.entries
         (state_of K.contents K.faults out) (state_of K.contents K.faults result.out) }
+    ensures unbuilt { LeavesUnbuilt words.now (F.held files.old) result.cause result.journal.entries
+        (state_of K.contents K.faults out) (state_of K.contents K.faults result.out) }
     ensures output { WritesOutput words.now (F.held files.old) result.journal.entries
         (state_of K.contents K.faults out) (state_of K.contents K.faults result.out) }
     ensures end { ReachesEnd words.now (F.held files.old) result.cause }
+    ensures print { WritesPrint words.now (F.held files.old) result.cause result.journal.entries
+        (state_of K.contents K.faults out) (state_of K.contents K.faults result.out) }
     ensures usage { RefusesWords words.now result.cause result.journal.entries
         (state_of K.contents K.faults out) (state_of K.contents K.faults result.out) }
 

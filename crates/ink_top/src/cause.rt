@@ -11,6 +11,8 @@ use std::alloc::{AllocError, Global};
 pub enum Cause {
     /// The run came to its end: each process waits for a message, and there is none.
     Quiet,
+    /// The whole print was written.
+    Written,
     /// The source breaks a rule.
     Refused(Refusal),
     /// No command has this word at its place, counted from 1.
@@ -21,6 +23,8 @@ pub enum Cause {
     WriteFault,
     /// There was no memory.
     OutOfMemory,
+    /// The module is more than what runs so far. It goes once all modules run.
+    Unbuilt,
 }
 
 impl Cause {
@@ -30,11 +34,13 @@ impl Cause {
     {
         match self {
             Cause::Quiet => 0,
+            Cause::Written => 0,
             Cause::Refused(_) => 1,
             Cause::Usage(_) => 2,
             Cause::ReadFault => 3,
             Cause::WriteFault => 4,
             Cause::OutOfMemory => 5,
+            Cause::Unbuilt => 10,
         }
     }
 
@@ -44,6 +50,7 @@ impl Cause {
     {
         match self {
             Cause::Quiet => Ok(Vec::new(alloc)),
+            Cause::Written => Ok(Vec::new(alloc)),
             Cause::Refused(refusal) => line(alloc, b"", refusal.text(alloc)?.bytes()),
             Cause::Usage(number) => line(
                 alloc,
@@ -53,6 +60,7 @@ impl Cause {
             Cause::ReadFault => line(alloc, b"cannot read ", file),
             Cause::WriteFault => line(alloc, b"write fault", b""),
             Cause::OutOfMemory => line(alloc, b"out of memory", b""),
+            Cause::Unbuilt => line(alloc, b"not built", b""),
         }
     }
 }

@@ -94,9 +94,19 @@ fn has_entries(ended: &Ended<MemSink>, entries: &[u32]) -> bool {
     ended.journal.len() == entries.len() as u64
 }
 
+/// Whether the call answers as the row says.
+fn answers(alloc: Global, row: Row<'_>) -> Result<bool, AllocError> {
+    let (ended, err) = call(alloc, row.source, row.words)?;
+    Ok(
+        ended.status == row.status
+            && ended.out.bytes() == row.out
+            && err.bytes() == row.err
+            && has_entries(&ended, row.journal),
+    )
+}
+
 #[test]
-fn each_answer_has_its_bytes(rt: HostRuntime) -> Result<(), Fail> {
-    let not_built: &[u8] = b"E00 NotBuilt at line 1, column 1\n";
+fn each_answer_of_a_run_has_its_bytes(rt: HostRuntime) -> Result<(), Fail> {
     let rows = [
         Row {
             words: &[b"run", b"F", b"--workers", b"1"],
@@ -107,7 +117,7 @@ fn each_answer_has_its_bytes(rt: HostRuntime) -> Result<(), Fail> {
             journal: &[1, 1],
         },
         Row {
-            words: &[b"run", b"--workers", b"64", b"F"],
+            words: &[b"run", b"--max-source", b"87", b"--workers", b"64", b"F"],
             source: HI,
             status: 0,
             out: b"hi\n",
@@ -124,35 +134,19 @@ fn each_answer_has_its_bytes(rt: HostRuntime) -> Result<(), Fail> {
         },
         Row {
             words: &[b"run", b"F"],
-            source: OTHER,
-            status: 1,
-            out: b"",
-            err: not_built,
-            journal: &[],
-        },
-        Row {
-            words: &[b"run", b"F"],
-            source: CUT,
-            status: 1,
-            out: b"",
-            err: not_built,
-            journal: &[],
-        },
-        Row {
-            words: &[b"run", b"F"],
-            source: b"",
-            status: 1,
-            out: b"",
-            err: not_built,
-            journal: &[],
-        },
-        Row {
-            words: &[b"run", b"F"],
             source: EVERY_CHARACTER,
             status: 0,
             out: b" !\"#%&()*+,-./0123456789:;<=>?@ABCDEFGHIJKLMNOPQRSTUVWXYZ[]^_`abcdefghijklmnopqrstuvwxyz{|}~\n\n",
             err: b"",
             journal: &[1, 1, 1],
+        },
+        Row {
+            words: &[b"run", b"F"],
+            source: OTHER,
+            status: 10,
+            out: b"",
+            err: b"not built\n",
+            journal: &[],
         },
         Row {
             words: &[b"run", b"nofile"],
@@ -164,32 +158,99 @@ fn each_answer_has_its_bytes(rt: HostRuntime) -> Result<(), Fail> {
         },
     ];
     for row in rows {
-        let (ended, err) = call(rt.alloc(), row.source, row.words)?;
-        assert_eq!(rt; ended.status, row.status);
-        assert_eq!(rt; ended.out.bytes(), row.out);
-        assert_eq!(rt; err.bytes(), row.err);
-        assert!(rt; has_entries(&ended, row.journal));
+        assert!(rt; answers(rt.alloc(), row)?);
+    }
+    Ok(())
+}
+
+#[test]
+fn each_phase_refuses_in_a_run(rt: HostRuntime) -> Result<(), Fail> {
+    let rows: [(&[&[u8]], &[u8], &[u8]); 8] = [
+        (
+            &[b"run", b"F", b"--max-source", b"86"],
+            HI,
+            b"E07 SourceTooLong at line 6, column 2\n",
+        ),
+        (
+            &[b"run", b"F"],
+            b"import std\xFF (((",
+            b"E01 NotUtf8 at line 1, column 11\n",
+        ),
+        (
+            &[b"run", b"F"],
+            b"fn f { 9223372036854775808 }",
+            b"E03 IntTooWide at line 1, column 8\n",
+        ),
+        (
+            &[b"run", b"F"],
+            CUT,
+            b"E05 Unexpected at line 6, column 1\n",
+        ),
+        (&[b"run", b"F"], b"", b"E13 NoMain at line 1, column 1\n"),
+        (
+            &[b"run", b"F"],
+            b"# no token\n",
+            b"E13 NoMain at line 1, column 1\n",
+        ),
+        (
+            &[b"run", b"--max-height", b"1", b"F"],
+            b"fn f { 1 + 2 }",
+            b"E06 TooDeep at line 1, column 8\n",
+        ),
+        (
+            &[b"print", b"--max-height", b"1", b"F"],
+            b"fn f { 1 + 2 }",
+            b"E06 TooDeep at line 1, column 8\n",
+        ),
+    ];
+    for (words, source, err) in rows {
+        let row = Row {
+            words,
+            source,
+            status: 1,
+            out: b"",
+            err,
+            journal: &[],
+        };
+        assert!(rt; answers(rt.alloc(), row)?, "{err:?}");
+    }
+    Ok(())
+}
+
+#[test]
+fn each_print_has_its_bytes(rt: HostRuntime) -> Result<(), Fail> {
+    let rows: [(&[u8], &[u8]); 3] = [
+        (b"", b""),
+        (
+            b"fn  f{let a=(1+2)+(3+4)}# ends",
+            b"fn f {\n  let a = 1 + 2 + (3 + 4)\n}\n",
+        ),
+        (
+            HI,
+            b"import std.stdio (Stdout)\ntype async Main {\n  fn async main {\n    Stdout.new.print('hi')\n  }\n}\n",
+        ),
+    ];
+    for (source, out) in rows {
+        let row = Row {
+            words: &[b"print", b"F"],
+            source,
+            status: 0,
+            out,
+            err: b"",
+            journal: &[],
+        };
+        assert!(rt; answers(rt.alloc(), row)?, "{out:?}");
     }
     Ok(())
 }
 
 #[test]
 fn first_wrong_word_is_named(rt: HostRuntime) -> Result<(), Fail> {
-    let rows: [(&[&[u8]], u64); 14] = [
+    let rows: [(&[&[u8]], u64); 4] = [
         (&[], 1),
-        (&[b"walk", b"F"], 1),
-        (&[b"run"], 2),
-        (&[b"run", b""], 2),
         (&[b"run", b"-F"], 2),
-        (&[b"run", b"F", b"--workers=2"], 3),
-        (&[b"run", b"F", b"G"], 3),
-        (&[b"run", b"--workers"], 3),
-        (&[b"run", b"F", b"--workers"], 4),
         (&[b"run", b"F", b"--workers", b"65"], 4),
-        (&[b"run", b"F", b"--workers", b"0"], 4),
-        (&[b"run", b"F", b"--workers", b"01"], 4),
-        (&[b"run", b"F", b"--workers", b"1", b"--workers"], 5),
-        (&[b"run", b"--workers", b"1", b"F", b"G"], 5),
+        (&[b"print", b"--max-source", b"1", b"F", b"G"], 5),
     ];
     for (words, number) in rows {
         let (ended, _err) = call(rt.alloc(), HI, words)?;
@@ -231,5 +292,22 @@ fn err_fails_while_the_cause_is_told(rt: HostRuntime) -> Result<(), Fail> {
     assert_eq!(rt; ended.status, 4);
     assert_eq!(rt; err.bytes(), b"cannotwrite fault\n".as_slice());
     assert!(rt; ended.journal.is_empty());
+    Ok(())
+}
+
+#[test]
+fn sink_fails_within_a_print(rt: HostRuntime) -> Result<(), Fail> {
+    let alloc = rt.alloc();
+    let mut files = one_file(alloc, b"fn f { }", Vec::new(alloc))?;
+    let sink = MemSink::new(alloc, 100, vec![in alloc; 2]?, vec![in alloc; 3]?)?;
+    let mut err = MemSink::new(alloc, 100, Vec::new(alloc), Vec::new(alloc))?;
+    let words = texts(alloc, &[b"print", b"F"])?;
+    let out = Counting { sink, calls: 0 };
+    let ended = inko_main(alloc, &words, &mut files, out, &mut err, &OpenGate);
+    assert_eq!(rt; ended.status, 4);
+    assert_eq!(rt; ended.out.sink.bytes(), b"fn ".as_slice());
+    assert_eq!(rt; ended.out.calls, 2);
+    assert!(rt; ended.journal.is_empty());
+    assert_eq!(rt; err.bytes(), b"write fault\n".as_slice());
     Ok(())
 }

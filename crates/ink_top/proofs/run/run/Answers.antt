@@ -1,7 +1,6 @@
-use Rattle.std.proofs.Common.{◌≡◌, ◌+◌, List, ℕ, ◌∷◌, drop, drop-cons, add-one, sym, ◌∙◌, subst, length, ◌<◌}
 use Rattle.std.proofs.lemmas.List.{drop_all}
 use Rattle.std.proofs.lemmas.Result.{err_from_is_err_and}
-use Rattle.ink_top.proofs.Stands.{Stands, stands_first, stands_next, replays_nothing, stands_failed, stands_at, stands_done}
+use Rattle.ink_top.proofs.Stands.{stands_first, stands_next, replays_nothing, stands_failed, stands_at, stands_done}
 use Rattle.ink_top.proofs.run.run.Goals as goal
 
 pub returns-in_err-reserve : goal.returns-in_err-reserve

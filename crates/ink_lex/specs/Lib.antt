@@ -1,4 +1,0 @@
-pub mod Ahead
-pub mod Gap
-pub mod Plain
-pub mod Token

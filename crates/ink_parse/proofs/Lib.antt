@@ -1,3 +1,0 @@
-pub mod Walk
-pub mod Printing
-pub mod Body

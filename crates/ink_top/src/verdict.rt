@@ -1,0 +1,45 @@
+//! The verdict on a source, as far as it is built: a module of the first form, another module, or a refusal.
+ghost use Rattle.ink_top.specs.Verdict.{Judges, PrintsSource};
+
+use ink_base::{JudgeFault, Limits, Place, Refusal, Rule, Text};
+use ink_first::first_form;
+use ink_print::print_module;
+use ink_reading::read_module;
+use std::alloc::Global;
+
+/// What a module is, as far as runs are built.
+#[derive(Drop)]
+pub enum Form {
+    /// Its main prints these texts, and does nothing else.
+    First(Vec<Text>),
+    /// More than that.
+    Other,
+}
+
+/// What the module of a source is.
+///
+/// Refused is the first phase of the reading that the source breaks, and with `NoMain` a source that has no token.
+pub fn judge(alloc: Global, source: &[u8], limits: &Limits) -> Result<Form, JudgeFault>
+    ensures { Judges limits.now source.now result }
+{
+    let reading = read_module(alloc, source, limits)?;
+    if reading.tokens.is_empty() {
+        return Err(JudgeFault::Refused(Refusal {
+            rule: Rule::NoMain,
+            place: Place::START,
+            detail: None,
+        }));
+    }
+    match first_form(alloc, source, &reading.tokens)? {
+        Some(texts) => Ok(Form::First(texts)),
+        None => Ok(Form::Other),
+    }
+}
+
+/// The canonical print of the module of a source. Refused is the first phase of the reading that the source breaks.
+pub fn print_source(alloc: Global, source: &[u8], limits: &Limits) -> Result<Text, JudgeFault>
+    ensures { PrintsSource limits.now source.now result }
+{
+    let reading = read_module(alloc, source, limits)?;
+    Ok(print_module(alloc, source, &reading.module)?)
+}
