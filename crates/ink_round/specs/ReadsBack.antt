@@ -20,15 +20,17 @@ pub record ReadsBack (source text : List ℕ) (tree : Tree) : Type 0 where
   pub parsed : Parses (seen_by_grammar text tokens) again
   pub alike : Alike source text tree again
 
--- a source that has these tokens and this tree, and no others, is printed as this text, which reads back
-pub record IsPrinted (limits source written : List ℕ) (tokens : List Token) (tree : Tree) : Type 0 where
-  pub read : ComesOnlyTo limits source (Reads tokens tree)
-  pub print : written ≡ canonical source tree
-  pub back : ReadsBack source written tree
+-- the bytes are read as a module, and this is its canonical print, which is read as the same module
+pub record IsPrint (limits bytes text : List ℕ) : Type 0 where
+  pub tokens : List Token
+  pub tree : Tree
+  pub reads : ComesOnlyTo limits bytes (Reads tokens tree)
+  pub print : text ≡ canonical bytes tree
+  pub back : ReadsBack bytes text tree
 
 -- The answer is the print of the module that the source is, or the first rule that the source breaks; where there was
 -- no memory, nothing is known.
 abbrev pub Prints : List ℕ → List ℕ → Result Text JudgeFault → Type 0
-Prints limits source (Ok text) = (tokens : List Token) × (tree : Tree) × IsPrinted limits source text tokens tree
+Prints limits source (Ok text) = IsPrint limits source text
 Prints limits source (Err (Refused refusal)) = ComesOnlyTo limits source (Refuses refusal)
 Prints limits source (Err OutOfMemory) = Unit {0}

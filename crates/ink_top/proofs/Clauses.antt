@@ -17,7 +17,8 @@ use Rattle.ink_top.specs.Calls.{IsUntouched, IsUnread, CutsPrint, most_read, Ran
 use Rattle.ink_top.specs.Causes.{IsFault}
 use Rattle.ink_top.specs.Headline.{TakesSource, RunsSource, PrintsSource, IsRefused, HasSource, Means, TellsCause}
 use Rattle.ink_top.specs.Runs.{SinkState, Gets, Replays, ReplaysCut}
-use Rattle.ink_top.specs.Verdict.{IsAccepted, IsUnbuilt, IsOnlyVerdict, IsPrint, Verdict}
+use Rattle.ink_top.specs.Verdict.{IsAccepted, IsUnbuilt, IsOnlyVerdict, Verdict}
+use Rattle.ink_round.specs.ReadsBack.{IsPrint}
 use Rattle.ink_top.specs.Verdict as verdict
 use Rattle.ink_top.specs.World.{Program}
 use Rattle.ink_top.specs.declared.cause.Cause.{Cause}

@@ -10,7 +10,8 @@ use Rattle.ink_words.specs.Commands.{Word, Asked, IsOrder, IsWrongWord}
 use Rattle.ink_reading.specs.Reading as reading
 use Rattle.ink_top.specs.Causes.{cause_text}
 use Rattle.ink_top.specs.Runs.{SinkState, Gets, Replays, ReplaysCut}
-use Rattle.ink_top.specs.Verdict.{IsOnlyVerdict, IsPrint}
+use Rattle.ink_round.specs.ReadsBack.{IsPrint}
+use Rattle.ink_top.specs.Verdict.{IsOnlyVerdict}
 use Rattle.ink_top.specs.Verdict as verdict
 use Rattle.ink_top.specs.World.{Program, IsQuiet}
 use Rattle.ink_top.specs.declared.cause.Cause.{Cause}

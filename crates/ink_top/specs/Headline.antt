@@ -13,7 +13,8 @@ use Rattle.ink_print.specs.Layout.{print}
 use Rattle.ink_top.specs.Causes.{cause_text, IsFault}
 use Rattle.ink_top.specs.Calls.{IsUntouched, CutsPrint, most_read}
 use Rattle.ink_top.specs.Runs.{SinkState, Gets, Replays, ReplaysCut}
-use Rattle.ink_top.specs.Verdict.{IsAccepted, IsUnbuilt, IsPrint}
+use Rattle.ink_round.specs.ReadsBack.{IsPrint, ReadsBack}
+use Rattle.ink_top.specs.Verdict.{IsAccepted, IsUnbuilt}
 use Rattle.ink_top.specs.Verdict as verdict
 use Rattle.ink_top.specs.World.{Program, World, replay, IsQuiet}
 use Rattle.ink_top.specs.declared.cause.Cause.{Cause}
@@ -76,6 +77,12 @@ WritesPrint words directory cause journal old new = (limits bytes : List ℕ) (t
     → PrintsSource words directory limits bytes → reading.ComesTo limits bytes (reading.Reads tokens tree)
     → (journal ≡ []) × (((cause ≡ Written ⊎ IsFault cause) × Gets old new (print bytes tree))
     ⊎ (IsFault cause × (CutsPrint (print bytes tree) old new ⊎ new ≡ old)))
+
+-- That print is read as the same module, but for the places of its tokens.
+abbrev pub KeepsModule : List Word → Option Directory → Type 0
+KeepsModule words directory = (limits bytes : List ℕ) (tokens : List Token) (tree : Tree)
+    → PrintsSource words directory limits bytes → reading.ComesTo limits bytes (reading.Reads tokens tree)
+    → ReadsBack bytes (print bytes tree) tree
 
 -- Wrong words: no event, no output, and the cause names the first that is wrong, unless a device failed or memory
 -- ran out.

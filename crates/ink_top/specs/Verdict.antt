@@ -1,14 +1,12 @@
--- What becomes of a source: of one that is to run, and of one that is to be printed.
+-- What becomes of a source that is to run.
 use Rattle.std.specs.Prelude.{◌≡◌, ◌≢◌, ℕ, ◌⊎◌, List, [], None, Result, Ok, Err}
 use Rattle.ink_base.specs.declared.token.Token.{Token}
-use Rattle.ink_base.specs.declared.text.Text.{Text}
 use Rattle.ink_base.specs.declared.refusal.Refusal.{Refusal}
 use Rattle.ink_base.specs.declared.refusal.Rule.TheVariants.{NoMain}
 use Rattle.ink_base.specs.declared.refusal.JudgeFault.{JudgeFault}
 use Rattle.ink_base.specs.declared.refusal.JudgeFault.TheVariants as fault
 use Rattle.ink_grammar.specs.Tree.{Tree}
-use Rattle.ink_reading.specs.Reading.{Reads, Refuses, ComesTo, ComesOnlyTo}
-use Rattle.ink_print.specs.Layout.{print}
+use Rattle.ink_reading.specs.Reading.{Reads, Refuses, ComesTo}
 use Rattle.ink_first.specs.FirstForm.{IsFirstForm}
 use Rattle.ink_top.specs.World.{Program}
 use Rattle.ink_top.specs.declared.verdict.Form.{Form}
@@ -60,16 +58,3 @@ Judges limits bytes (Ok (form.First texts)) = IsOnlyVerdict limits bytes (Accept
 Judges limits bytes (Ok form.Other) = IsOnlyVerdict limits bytes Unbuilt
 Judges limits bytes (Err (fault.Refused refusal)) = IsOnlyVerdict limits bytes (Refused refusal)
 Judges limits bytes (Err fault.OutOfMemory) = Unit {0}
-
--- the bytes are read as a module, and this is its canonical print
-pub record IsPrint (limits bytes text : List ℕ) : Type 0 where
-  pub tokens : List Token
-  pub tree : Tree
-  pub reads : ComesOnlyTo limits bytes (Reads tokens tree)
-  pub print : text ≡ print bytes tree
-
--- the answer is the print of the one tree that the bytes are, or the refusal that they come to
-abbrev pub PrintsSource : List ℕ → List ℕ → Result Text JudgeFault → Type 0
-PrintsSource limits bytes (Ok text) = IsPrint limits bytes text
-PrintsSource limits bytes (Err (fault.Refused refusal)) = ComesOnlyTo limits bytes (Refuses refusal)
-PrintsSource limits bytes (Err fault.OutOfMemory) = Unit {0}

@@ -5,15 +5,16 @@ ghost use Rattle.ink_words.specs.declared.command.Command.TheVariants.{Run, Prin
 ghost use Rattle.ink_words.specs.Commands.{asked, asked_by};
 ghost use Rattle.ink_top.specs.Calls.{most_read, IsUnread, IsToldLast, Did, Performed, PrintedSource, RanSource, Tells};
 ghost use Rattle.ink_top.specs.Causes.{status_of};
-ghost use Rattle.ink_top.specs.Headline.{RefusesModule, LeavesUnbuilt, WritesOutput, ReachesEnd, WritesPrint, RefusesWords, Means, ShowsFaults, TellsCause};
+ghost use Rattle.ink_top.specs.Headline.{RefusesModule, LeavesUnbuilt, WritesOutput, ReachesEnd, WritesPrint, KeepsModule, RefusesWords, Means, ShowsFaults, TellsCause};
 ghost use Rattle.ink_top.specs.Runs.{state_of};
 
 use crate::cause::Cause;
 use crate::run::{RunFault, run};
-use crate::verdict::{Form, judge, print_source};
+use crate::verdict::{Form, judge};
 use ink_base::{
     Failed, FileFault, Files, Gate, Journal, JudgeFault, Limit, Limits, Sink, Text, write_whole,
 };
+use ink_round::{print_reads_back, print_source};
 use ink_words::{Order, read_words};
 use std::alloc::Global;
 
@@ -250,6 +251,7 @@ pub fn inko_main<F: Files, K: Sink + Send, E: Sink, G: Gate + Sync>(
     ensures end { ReachesEnd words.now (F.held files.old) result.cause }
     ensures print { WritesPrint words.now (F.held files.old) result.cause result.journal.entries
         (state_of K.contents K.faults out) (state_of K.contents K.faults result.out) }
+    ensures same_module { KeepsModule words.now (F.held files.old) }
     ensures usage { RefusesWords words.now result.cause result.journal.entries
         (state_of K.contents K.faults out) (state_of K.contents K.faults result.out) }
 
@@ -269,6 +271,7 @@ pub fn inko_main<F: Files, K: Sink + Send, E: Sink, G: Gate + Sync>(
     ensures told { TellsCause words.now result.cause
         (state_of E.contents E.faults err.old) (state_of E.contents E.faults err.new) }
 {
+    print_reads_back();
     let mut journal = Journal::new(alloc);
     let found = perform(alloc, words, files, &mut journal, &mut out);
     let cause = tell(alloc, found.cause, found.file, err);

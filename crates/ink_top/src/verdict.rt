@@ -1,9 +1,8 @@
 //! The verdict on a source, as far as it is built: a module of the first form, another module, or a refusal.
-ghost use Rattle.ink_top.specs.Verdict.{Judges, PrintsSource};
+ghost use Rattle.ink_top.specs.Verdict.{Judges};
 
 use ink_base::{JudgeFault, Limits, Place, Refusal, Rule, Text};
 use ink_first::first_form;
-use ink_print::print_module;
 use ink_reading::read_module;
 use std::alloc::Global;
 
@@ -34,12 +33,4 @@ pub fn judge(alloc: Global, source: &[u8], limits: &Limits) -> Result<Form, Judg
         Some(texts) => Ok(Form::First(texts)),
         None => Ok(Form::Other),
     }
-}
-
-/// The canonical print of the module of a source. Refused is the first phase of the reading that the source breaks.
-pub fn print_source(alloc: Global, source: &[u8], limits: &Limits) -> Result<Text, JudgeFault>
-    ensures { PrintsSource limits.now source.now result }
-{
-    let reading = read_module(alloc, source, limits)?;
-    Ok(print_module(alloc, source, &reading.module)?)
 }

@@ -11,4 +11,4 @@ returns c =
     let read = c.in_ok-reading.ensures in
     let back = c.print_reads_back.ensures source tokens module' read.comes.lexed read.comes.parsed in
     let print = c.in_ok-text.ensures in
-    (tokens, module', record { read = read; print = print; back = subst (λ text. ReadsBack source text module') (sym print) back })
+    record { tokens = tokens; tree = module'; reads = read; print = print; back = subst (λ text. ReadsBack source text module') (sym print) back }

@@ -21,6 +21,9 @@ pub returns-clause-print : goal.returns-clause-print
 returns-clause-print g c =
     λ limits bytes tokens tree. printed_module _ _ _ _ _ _ _ _ _ _ _ _ limits bytes tokens tree c.perform-found.ensures.performed c.tell-cause.ensures
 
+pub returns-clause-same_module : goal.returns-clause-same_module
+returns-clause-same_module g c = λ limits bytes tokens tree source reads. c.print_reads_back.ensures bytes tokens tree reads.lexed reads.parsed
+
 pub returns-clause-usage : goal.returns-clause-usage
 returns-clause-usage g c =
     λ number. wrong_words _ _ _ _ _ _ _ _ _ _ _ _ number c.perform-found.ensures.performed c.tell-cause.ensures
