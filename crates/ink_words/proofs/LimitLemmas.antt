@@ -1,7 +1,6 @@
 -- The limits by their options, and the numbers that they may have.
-use Rattle.std.proofs.Common.{◌≡◌, ◌≢◌, ℕ, ◌^◌, ◌<◌, List, [], ◌∷◌, slice_index_or, slice_set, slice_index, suc, zero, length, cond, nat_eq, lit≤, ◌⊎◌, inl, inr, Result, Ok, refl, sym, ap, ◌∙◌, subst, arith}
+use Rattle.std.proofs.Common.{◌≡◌, ◌≢◌, ℕ, ◌^◌, ◌<◌, List, [], ◌∷◌, slice_index_or, slice_set, slice_index, suc, zero, length, lit≤, ◌⊎◌, inl, inr, Result, Ok, refl, sym, ap, ◌∙◌, subst, arith}
 use Rattle.std.specs.Fmt.{decimal}
-use Rattle.std.specs.Prelude.{sum}
 use Rattle.std.proofs.lemmas.List.{get_or-set_same, get_or-set_other, length-set}
 use Rattle.std.proofs.lemmas.Bool.{cases_order}
 use Rattle.std.specs.Str.{IsUtf8}
@@ -11,7 +10,7 @@ use Rattle.std.proofs.lemmas.Fmt.{IsAscii-decimal, parse-decimal, decimal_inject
 use Rattle.ink_base.specs.Limits.{place_of, option_word, IsInRange, IsInRangeAt, AreInRange, default_numbers}
 use Rattle.ink_base.specs.declared.limits.Limit.{Limit}
 use Rattle.ink_base.specs.declared.limits.Limit.TheVariants.{Source, Height, Frames, Objects, Serial, Array, Text, Processes, Mailbox, Futures, Events, Local, Slice, Workers}
-use Rattle.ink_words.specs.Commands.{Word, IsName, IsNumber}
+use Rattle.ink_words.specs.Commands.{Word, IsNumber}
 
 -- all limits, in their order
 abbrev pub all_limits : List Limit
@@ -102,63 +101,6 @@ least Events = (lit≤ tt, lit≤ tt)
 least Local = (lit≤ tt, lit≤ tt)
 least Slice = (lit≤ tt, lit≤ tt)
 least Workers = (lit≤ tt, lit≤ tt)
-
--- an option is no file's name
-pub option_is_no_name : (limit : Limit) → IsName (option_word limit) → ⊥
-option_is_no_name Source name = name refl
-option_is_no_name Height name = name refl
-option_is_no_name Frames name = name refl
-option_is_no_name Objects name = name refl
-option_is_no_name Serial name = name refl
-option_is_no_name Array name = name refl
-option_is_no_name Text name = name refl
-option_is_no_name Processes name = name refl
-option_is_no_name Mailbox name = name refl
-option_is_no_name Futures name = name refl
-option_is_no_name Events name = name refl
-option_is_no_name Local name = name refl
-option_is_no_name Slice name = name refl
-option_is_no_name Workers name = name refl
-
--- each option has its own sum of bytes
-limit_of_sum : ℕ → Limit
-limit_of_sum n =
-    cond (nat_eq n 1118) Source (
-    cond (nat_eq n 1094) Height (
-    cond (nat_eq n 1099) Frames (
-    cond (nat_eq n 1207) Objects (
-    cond (nat_eq n 1101) Serial (
-    cond (nat_eq n 1004) Array (
-    cond (nat_eq n 914) Text (
-    cond (nat_eq n 1444) Processes (
-    cond (nat_eq n 1209) Mailbox (
-    cond (nat_eq n 1243) Futures (
-    cond (nat_eq n 1122) Events (
-    cond (nat_eq n 984) Local (
-    cond (nat_eq n 618) Slice (
-    Workers)))))))))))))
-
-option_told : (limit : Limit) → limit_of_sum (sum (option_word limit)) ≡ limit
-unfolding limit_of_sum
-option_told Source = refl
-option_told Height = refl
-option_told Frames = refl
-option_told Objects = refl
-option_told Serial = refl
-option_told Array = refl
-option_told Text = refl
-option_told Processes = refl
-option_told Mailbox = refl
-option_told Futures = refl
-option_told Events = refl
-option_told Local = refl
-option_told Slice = refl
-option_told Workers = refl
-
--- one word is the option of one limit
-pub one_option : (word : Word) (one other : Limit) → word ≡ option_word one → word ≡ option_word other → one ≡ other
-one_option word one other is is_other =
-    sym (option_told one) ∙ ap (λ w. limit_of_sum (sum w)) (sym is ∙ is_other) ∙ option_told other
 
 -- each limit has a number in its range
 pub record AreNumbers (numbers : List ℕ) : Type 0 where

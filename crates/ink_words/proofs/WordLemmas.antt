@@ -1,14 +1,14 @@
 -- How words go on behind one of them, and where they leave the language.
-use Rattle.std.proofs.Common.{◌≡◌, ◌↔◌, ℕ, ◌+◌, ◌<◌, ◌≤◌, inl, inr, true, false, List, [], ◌∷◌, ◌++◌, suc, length, take, Option, None, Some, refl, sym, ap, ◌∙◌, subst, arith, lit≤, append_assoc, append-nil, IfSome, IfNone}
+use Rattle.std.proofs.Common.{◌≡◌, ◌↔◌, ℕ, ◌+◌, ◌<◌, ◌≤◌, inl, inr, List, [], ◌∷◌, ◌++◌, suc, length, take, Option, None, Some, refl, sym, ap, ◌∙◌, subst, arith, lit≤, append_assoc, append-nil, IfSome, IfNone}
 use Rattle.std.specs.Prelude.{codes}
 use Rattle.std.proofs.lemmas.List.{take_all}
 use Rattle.std.specs.Fmt.{decimal}
-use Rattle.ink_base.specs.Limits.{option_word, default_numbers}
+use Rattle.ink_base.specs.Limits.{default_numbers}
 use Rattle.ink_base.specs.declared.limits.Limit.{Limit}
 use Rattle.ink_words.specs.declared.command.Command.{Command}
 use Rattle.ink_words.specs.declared.command.Command.TheVariants as command
-use Rattle.ink_words.specs.Commands.{Asked, asked, IsOrder, IsCommand, IsWrongWord, command_word, Word, IsName, IsNumber, Given, no_arguments, with_file, with_number, is_given, has_option, Follows, Behind, AreRight, Begins, Leaves, GoesOn, GoesNowhere}
-use Rattle.ink_words.proofs.LimitLemmas.{one_number, one_option, option_is_no_name, least, AreNumbers, default_are_numbers, with_number_are_numbers}
+use Rattle.ink_words.specs.Commands.{Asked, asked, IsOrder, IsCommand, IsWrongWord, command_word, Word, IsName, IsNumber, Given, no_arguments, with_file, with_number, Follows, Behind, AreRight, Begins, Leaves, GoesOn, GoesNowhere}
+use Rattle.ink_words.proofs.LimitLemmas.{one_number, least, AreNumbers, default_are_numbers, with_number_are_numbers}
 
 -- a number
 
@@ -19,60 +19,12 @@ number_next command limit before word number is = λ words last. (
   λ rest. (number, is, rest),
 )
 
-pub no_number : (command : Command) (limit : Limit) (before : Given) (word : Word) → ((number : ℕ) → IsNumber limit number word → ⊥)
-    → GoesNowhere command (Some limit) before word
-no_number command limit before word none = λ words last whole. none whole.0 whole.1
-
--- a file
-
-pub file_next : (command : Command) (before : Given) (word : Word) → IsName word → before.file ≡ None
-    → GoesOn command None before word None (with_file word before)
-file_next command before word is free = λ words last. (
-  λ whole. elim whole [ inl it ↦ it.2 | inr it ↦ absurd (option_is_no_name it.0 (subst IsName it.1 is)) ],
-  λ rest. inl (is, free, rest),
-)
-
-pub second_file : (command : Command) (before : Given) (word : Word) → IsName word → (before.file ≡ None → ⊥) → GoesNowhere command None before word
-second_file command before word is taken = λ words last whole.
-    elim whole [ inl it ↦ taken it.1 | inr it ↦ option_is_no_name it.0 (subst IsName it.1 is) ]
-
--- an option
-
-pub option_next : (command : Command) (limit : Limit) (before : Given) (word : Word) → (IsName word → ⊥) → word ≡ option_word limit
-    → has_option command limit ≡ true → is_given limit before ≡ false → GoesOn command None before word (Some limit) before
-option_next command limit before word no_name is has new = λ words last. (
-  λ whole. elim whole [
-    | inl it ↦ absurd (no_name it.0)
-    | inr it ↦ subst (λ (l : Limit). Follows command (Some l) before words last) (one_option word it.0 limit it.1 is) it.4
-  ],
-  λ rest. inr (limit, is, has, new, rest),
-)
-
-pub no_argument : (command : Command) (before : Given) (word : Word) → (IsName word → ⊥)
-    → ((limit : Limit) → word ≡ option_word limit → has_option command limit ≡ true → is_given limit before ≡ false → ⊥) → GoesNowhere command None before word
-no_argument command before word no_name none = λ words last whole.
-    elim whole [ inl it ↦ no_name it.0 | inr it ↦ none it.0 it.1 it.2 it.3 ]
-
-pub option_refused : (command : Command) (limit : Limit) (before : Given) (word : Word) → (IsName word → ⊥) → word ≡ option_word limit
-    → (has_option command limit ≡ true → is_given limit before ≡ false → ⊥) → GoesNowhere command None before word
-option_refused command limit before word no_name is refused =
-    no_argument command before word no_name (λ other is_other has new.
-    let same : other ≡ limit = one_option word other limit is_other is in
-    refused (ap (has_option command) (sym same) ∙ has) (ap (λ l. is_given l before) (sym same) ∙ new))
-
--- what a test that failed says
-pub refuted : (P : Type 0) → (P → false ≡ true) → P → ⊥
-refuted P test holds = let e : false ≡ true = test holds in cc
-
 -- what words have given
 
 -- the words read so far lead to this, whatever follows
 abbrev pub Reaches : Command → List Word → Option Limit → Given → Type 0
 Reaches command front awaited given = (words : List Word) (last : Given)
     → Follows command None no_arguments (front ++ words) last ↔ Follows command awaited given words last
-
-pub reaches_first : (command : Command) → Reaches command [] None no_arguments
-reaches_first command = λ words last. (λ x. x, λ x. x)
 
 pub reaches_next : (command : Command) (front more : List Word) (word : Word) (awaited next : Option Limit) (before behind : Given)
     → Reaches command front awaited before → GoesOn command awaited before word next behind → more ≡ front ++ word ∷ [] → Reaches command more next behind
