@@ -26,7 +26,7 @@ use Rattle.ink_print.specs.Layout.{token_text}
 use Rattle.ink_sorts.specs.Written.{IsWorded, IsQuote, IsPartOf, quote_of}
 use Rattle.ink_sorts.specs.Nested as nested
 use Rattle.ink_nests.specs.Opened.{IsOpen, outside, in_text, in_value, in_braces, in_inner_braces, NoPartBehind}
-use Rattle.ink_nests.proofs.Fronts.{form-within}
+use Rattle.ink_tokens.proofs.LengthLemmas.{form-within}
 use Rattle.ink_nests.proofs.Spelled.{with_sign, Tells, spelled-tells}
 use Rattle.ink_nests.proofs.Spelled as tells
 use Rattle.ink_nests.proofs.Parts.{part-within, part-stops, part-alone}

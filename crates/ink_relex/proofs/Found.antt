@@ -21,7 +21,8 @@ use Rattle.ink_tokens.specs.Spelling.{IsSpelled, spelled_name, spelled_const, sp
 use Rattle.ink_tokens.proofs.FormLemmas.{form_at-spelled}
 use Rattle.ink_tokens.proofs.SpellingLemmas.{form_at-longest}
 use Rattle.ink_relex.proofs.Leads.{extends}
-use Rattle.ink_relex.proofs.Forms.{one_kind, inner-extends, form-inside, first_digit}
+use Rattle.ink_tokens.proofs.LengthLemmas.{form-within}
+use Rattle.ink_relex.proofs.Forms.{one_kind, inner-extends, first_digit}
 
 -- no longer text at the front is spelled as a token
 abbrev pub IsLast : Bool → List ℕ → List ℕ → Type 0
@@ -91,7 +92,7 @@ form-found m text rest k some spelled last =
     let long : length text ≤ f.length = form_at-longest m (length text) bytes k (omega (arith, whole)) (subst (λ t. IsSpelled m t k) (sym front) spelled) in
     let is : IsSpelled m (take f.length bytes) f.kind = form_at-spelled m bytes (omega arith) in
     let size : f.length ≡ length text =
-    ⊎_elim (λ less. absurd (last f.length f.kind less (form-inside m bytes) is)) (λ more. omega (arith, long)) (order (length text) f.length) in
+    ⊎_elim (λ less. absurd (last f.length f.kind less (form-within m bytes) is)) (λ more. omega (arith, long)) (order (length text) f.length) in
     let kinds : f.kind ≡ k =
     one_kind m text f.kind k (subst (λ t. IsSpelled m t f.kind) (ap (λ n. take n bytes) size ∙ front) is) spelled in
     form-eta f k (length text) kinds size

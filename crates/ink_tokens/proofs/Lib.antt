@@ -1,5 +1,6 @@
 pub mod AnswerLemmas
 pub mod FormLemmas
+pub mod LengthLemmas
 pub mod LexesLemmas
 pub mod NumberLemmas
 pub mod PartLemmas

@@ -5,11 +5,13 @@ ghost use Rattle.ink_tokens.specs.Found.{form_at};
 ghost use Rattle.ink_tokens.specs.Spelling.{IsSpelled};
 
 /// A law on the definition by which sources have tokens, for any bytes: what the form at the front takes is spelled as
-/// a token of its kind, and no longer text at the front is spelled as a token. It does nothing when it runs.
+/// a token of its kind, no longer text at the front is spelled as a token, and it takes no more than there is. It does
+/// nothing when it runs.
 pub fn longest_form()
     ensures spelled { (may_be_signed : Bool) (bytes : List ℕ) →
         let form = form_at may_be_signed bytes in
         0 < form.length → IsSpelled may_be_signed (take form.length bytes) form.kind }
     ensures longest { (may_be_signed : Bool) (n : ℕ) (bytes : List ℕ) (kind : TokenKind) → n ≤ length bytes →
         IsSpelled may_be_signed (take n bytes) kind → n ≤ (form_at may_be_signed bytes).length }
+    ensures within { (may_be_signed : Bool) (bytes : List ℕ) → (form_at may_be_signed bytes).length ≤ length bytes }
 {}
