@@ -12,5 +12,7 @@ mod bench;
 mod choices;
 mod form;
 mod part;
+mod spelled;
+mod values;
 
 pub use form::{Choice, Constructed, CoreModule, Form, FormId, Literal, Selector, TypeForm};
