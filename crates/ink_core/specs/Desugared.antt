@@ -17,7 +17,7 @@ sight source (Three form start a b c) = three form start (sight source a) (sight
 sight source (Four form start a b c d) =
     four form start (sight source a) (sight source b) (sight source c) (sight source d)
 sight source (Five form start a b c d e) =
-    five form start (sight source a) (sight source b) (sight source c) (sight source d) (sight source e)
+    five form start (sight source b) (sight source c) (sight source d) (sight source e)
 
 -- the core form of a tree whose words are in this source
 abbrev pub core_of : List ℕ → Tree → Core

@@ -43,6 +43,13 @@ list_of_two a b = More (list_of_one a) b
 abbrev pub list_of_three : Core → Core → Core → Core
 list_of_three a b c = More (list_of_two a b) c
 
+-- tuples
+abbrev pub pair : ℕ → Core → Core → Core
+pair start a b = New start made.Tuple2 (list_of_two a b)
+
+abbrev pub triple : ℕ → Core → Core → Core → Core
+triple start a b c = New start made.Tuple3 (list_of_three a b c)
+
 -- an arm that the table adds: it and its pattern stand here
 abbrev pub arm : ℕ → Core → Core → Core
 arm here pattern value = Arm here pattern Missing value
@@ -156,68 +163,94 @@ is_mutable _ name = is_named name.shape
 unfoldable pub one : OneChild → ℕ → Sight → Sight
 one one_of.Statement start a = statement start a
 
+-- a module, or a part of a declaration or a type, with two children: no other node is left
+unfoldable pub declaration_of_two : TwoChildren → Sight → Sight → Core
+declaration_of_two two_of.Module a b = Module a.core b.core
+declaration_of_two two_of.TypeParameter a b = TypeParameter (token_of a.label) b.core
+declaration_of_two two_of.Parameter a b = Parameter (token_of a.label) b.core
+declaration_of_two two_of.NamedType a b = NamedType (token_of a.label) b.core
+declaration_of_two two_of.PrefixedType a b = PrefixedType (token_of a.label) b.core
+declaration_of_two _ a b = Missing
+
+-- a pattern with two children
+unfoldable pub pattern_of_two : TwoChildren → ℕ → Sight → Sight → Core
+pattern_of_two two_of.Either start a b = Either start a.core b.core
+pattern_of_two two_of.MutableName start a b = MutableName start (token_of b.label)
+pattern_of_two two_of.ConstructorPattern start a b = New start (made_of a.label) b.core
+pattern_of_two two_of.FieldPattern start a b = FieldPattern (token_of a.label) b.core
+pattern_of_two two_of.FieldPatterns start a b = FieldPatterns start b.core
+pattern_of_two form start a b = declaration_of_two form a b
+
+-- a value with two children
+unfoldable pub value_of_two : List ℕ → TwoChildren → ℕ → Sight → Sight → Core
+value_of_two source two_of.Return start a b = return start b.label b.core
+value_of_two source two_of.Throw start a b = returned_error start b.core
+value_of_two source two_of.Borrow start a b = Borrow start (borrow_kind (token_of a.label).shape) b.core
+value_of_two source two_of.Try start a b = try start (token_of a.label) b.core
+value_of_two source two_of.Recover start a b = Recover start b.core
+value_of_two source two_of.Call start a b = called source (token_of a.label) b.core
+value_of_two source two_of.Construct start a b = New start (made_of a.label) b.core
+value_of_two source two_of.Named start a b = Named (token_of a.label) b.core
+value_of_two source two_of.Text start a b = text start b.core
+value_of_two source two_of.Array start a b = Arr start b.core
+value_of_two source two_of.Loop start a b = Loop start (given_up b)
+value_of_two source two_of.Member start a b = linked start (owner_of a.label) a.core (token_of b.label)
+value_of_two source two_of.TupleItem start a b = Field start (token_of b.label) a.core
+value_of_two source form start a b = pattern_of_two form start a b
+
 -- a node of two children
 unfoldable pub two : List ℕ → TwoChildren → ℕ → Sight → Sight → Sight
 two source two_of.More start a b = more a b
-two source two_of.Module start a b = plain (Module a.core b.core)
-two source two_of.TypeParameter start a b = plain (TypeParameter (token_of a.label) b.core)
-two source two_of.Parameter start a b = plain (Parameter (token_of a.label) b.core)
-two source two_of.Return start a b = plain (return start b.label b.core)
-two source two_of.Throw start a b = plain (returned_error start b.core)
-two source two_of.Borrow start a b = plain (Borrow start (borrow_kind (token_of a.label).shape) b.core)
-two source two_of.Try start a b = plain (try start (token_of a.label) b.core)
-two source two_of.Recover start a b = plain (Recover start b.core)
-two source two_of.Call start a b = plain (called source (token_of a.label) b.core)
-two source two_of.Construct start a b = plain (New start (made_of a.label) b.core)
 two source two_of.Qualified start a b =
     constant start (token_of b.label) (made.Qualified (token_of a.label) (token_of b.label))
-two source two_of.Named start a b = plain (Named (token_of a.label) b.core)
-two source two_of.Text start a b = plain (text start b.core)
-two source two_of.Array start a b = plain (Arr start b.core)
-two source two_of.Loop start a b = plain (Loop start (given_up b))
-two source two_of.Member start a b = plain (linked start (owner_of a.label) a.core (token_of b.label))
-two source two_of.TupleItem start a b = plain (Field start (token_of b.label) a.core)
-two source two_of.Either start a b = plain (Either start a.core b.core)
-two source two_of.MutableName start a b = plain (MutableName start (token_of b.label))
-two source two_of.ConstructorPattern start a b = plain (New start (made_of a.label) b.core)
-two source two_of.FieldPattern start a b = plain (FieldPattern (token_of a.label) b.core)
-two source two_of.FieldPatterns start a b = plain (FieldPatterns start b.core)
-two source two_of.NamedType start a b = plain (NamedType (token_of a.label) b.core)
-two source two_of.PrefixedType start a b = plain (PrefixedType (token_of a.label) b.core)
+two source form start a b = plain (value_of_two source form start a b)
+
+-- a node of three children that is no block
+unfoldable pub core_of_three : ThreeChildren → ℕ → Sight → Sight → Sight → Core
+core_of_three three_of.Import start a b c = Import start b.core c.core
+core_of_three three_of.Constructor start a b c = Constructor start (token_of b.label) c.core
+core_of_three three_of.Assign start a b c = assigned start (token_of b.label).shape (token_of b.label) a.core c.core
+core_of_three three_of.Binary start a b c = operated start (token_of b.label).shape (token_of b.label) a.core c.core
+core_of_three three_of.While start a b c = while start b.core c.core
+core_of_three three_of.Match start a b c = Match start choice.Match b.core c.core
+core_of_three three_of.MemberCall start a b c = linked_call start (owner_of a.label) a.core (token_of b.label) c.core
+core_of_three three_of.Pair start a b c = pair start b.core c.core
+core_of_three three_of.PairPattern start a b c = pair start b.core c.core
+core_of_three three_of.PairType start a b c = TupleType start (list_of_two b.core c.core)
+core_of_three three_of.Block start a b c = Missing
 
 -- a node of three children
 unfoldable pub three : ThreeChildren → ℕ → Sight → Sight → Sight → Sight
-three three_of.Import start a b c = plain (Import start b.core c.core)
-three three_of.Constructor start a b c = plain (Constructor start (token_of b.label) c.core)
 three three_of.Block start a b c = block start b (token_of c.label).start
-three three_of.Assign start a b c = plain (assigned start (token_of b.label).shape (token_of b.label) a.core c.core)
-three three_of.Binary start a b c = plain (operated start (token_of b.label).shape (token_of b.label) a.core c.core)
-three three_of.While start a b c = plain (while start b.core c.core)
-three three_of.Match start a b c = plain (Match start choice.Match b.core c.core)
-three three_of.MemberCall start a b c = plain (linked_call start (owner_of a.label) a.core (token_of b.label) c.core)
-three three_of.Pair start a b c = plain (New start made.Tuple2 (list_of_two b.core c.core))
-three three_of.PairPattern start a b c = plain (New start made.Tuple2 (list_of_two b.core c.core))
-three three_of.PairType start a b c = plain (TupleType start (list_of_two b.core c.core))
+three form start a b c = plain (core_of_three form start a b c)
+
+-- a node of four children that is no signature
+unfoldable pub core_of_four : FourChildren → ℕ → Sight → Sight → Sight → Sight → Core
+core_of_four four_of.FieldDeclaration start a b c d = FieldDeclaration start b.core (token_of c.label) d.core
+core_of_four four_of.Method start a b c d = Method start b.core c.core (method_body c.label d)
+core_of_four four_of.Trait start a b c d = Trait start b.core (token_of c.label) d.core
+core_of_four four_of.Implementation start a b c d = Implementation start (token_of b.label) (written c.label) d.core
+core_of_four four_of.If start a b c d = conditional start b.core c.core d.label d.core
+core_of_four four_of.Arm start a b c d = Arm start b.core c.core d.core
+core_of_four four_of.Triple start a b c d = triple start b.core c.core d.core
+core_of_four four_of.TriplePattern start a b c d = triple start b.core c.core d.core
+core_of_four four_of.TripleType start a b c d = TupleType start (list_of_three b.core c.core d.core)
+core_of_four four_of.Signature start a b c d = Signature (token_of a.label) b.core c.core d.core
 
 -- a node of four children
 unfoldable pub four : FourChildren → ℕ → Sight → Sight → Sight → Sight → Sight
-four four_of.FieldDeclaration start a b c d = plain (FieldDeclaration start b.core (token_of c.label) d.core)
 four four_of.Signature start a b c d =
     record { core = Signature (token_of a.label) b.core c.core d.core; label = signature_label d.label }
-four four_of.Method start a b c d = plain (Method start b.core c.core (method_body c.label d))
-four four_of.Trait start a b c d = plain (Trait start b.core (token_of c.label) d.core)
-four four_of.Implementation start a b c d = plain (Implementation start (token_of b.label) (written c.label) d.core)
-four four_of.If start a b c d = plain (conditional start b.core c.core d.label d.core)
-four four_of.Arm start a b c d = plain (Arm start b.core c.core d.core)
-four four_of.Triple start a b c d = plain (New start made.Tuple3 (list_of_three b.core c.core d.core))
-four four_of.TriplePattern start a b c d = plain (New start made.Tuple3 (list_of_three b.core c.core d.core))
-four four_of.TripleType start a b c d = plain (TupleType start (list_of_three b.core c.core d.core))
+four form start a b c d = plain (core_of_four form start a b c d)
 
 -- a node of five children
-unfoldable pub five : FiveChildren → ℕ → Sight → Sight → Sight → Sight → Sight → Sight
-five five_of.TypeDeclaration start a b c d e =
-    plain (TypeDeclaration start type_of.Object b.core (token_of c.label) d.core e.core)
-five five_of.EnumDeclaration start a b c d e =
-    plain (TypeDeclaration start type_of.Enum b.core (token_of c.label) d.core e.core)
-five five_of.Let start a b c d e = plain (Let start (is_mutable b.label (token_of c.label)) (token_of c.label) d.core e.core)
-five five_of.TraitMethod start a b c d e = plain (TraitMethod start b.core (token_of c.label) d.core e.core)
+unfoldable pub core_of_five : FiveChildren → ℕ → Sight → Sight → Sight → Sight → Core
+core_of_five five_of.TypeDeclaration start b c d e =
+    TypeDeclaration start type_of.Object b.core (token_of c.label) d.core e.core
+core_of_five five_of.EnumDeclaration start b c d e =
+    TypeDeclaration start type_of.Enum b.core (token_of c.label) d.core e.core
+core_of_five five_of.Let start b c d e = Let start (is_mutable b.label (token_of c.label)) (token_of c.label) d.core e.core
+core_of_five five_of.TraitMethod start b c d e = TraitMethod start b.core (token_of c.label) d.core e.core
+
+abbrev pub five : FiveChildren → ℕ → Sight → Sight → Sight → Sight → Sight
+five form start b c d e = plain (core_of_five form start b c d e)

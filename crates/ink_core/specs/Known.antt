@@ -20,4 +20,4 @@ sighted source known (n.Three form start a b c) = three form start (at known a) 
 sighted source known (n.Four form start a b c d) =
     four form start (at known a) (at known b) (at known c) (at known d)
 sighted source known (n.Five form start a b c d e) =
-    five form start (at known a) (at known b) (at known c) (at known d) (at known e)
+    five form start (at known b) (at known c) (at known d) (at known e)

@@ -1,6 +1,7 @@
 pub mod Core
 pub mod Built
 pub mod Sights
+pub mod Seen
 pub mod Texts
 pub mod Forms
 pub mod Desugared

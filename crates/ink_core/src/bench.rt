@@ -3,15 +3,38 @@
 //!
 //! What is taken lies in a pile. A node is made of the numbers on its top, and takes their place.
 ghost use Rattle.std.specs.Prelude.{◌≡◌, ◌≤◌, ◌∷◌, ◌++◌, [], All, length, OnOk, IfOk};
+ghost use Rattle.std.specs.Prelude.{if◌then◌else◌, nat_lt};
 ghost use Rattle.ink_core.specs.Parts.{Stands, PartStands};
+ghost use Rattle.ink_core.specs.Seen.{seen_of};
 
 use crate::form::{Constructed, CoreModule, Form, FormId, Literal};
-use crate::part::{Label, NO_TOKEN, Part};
+use crate::part::{Label, Looked, NO_TOKEN, Part};
 use ink_grammar::{Keyword, Shape, Token};
 use std::alloc::{AllocError, Global};
 
 /// No node's number.
 const NOTHING: FormId = 0xffff_ffff;
+
+/// The number of a child, where it is before its parent.
+fn child_before(number: FormId, parent: FormId) -> FormId
+    ensures { result ≡ (if nat_lt number parent then number else 4294967295) }
+{
+    if number < parent { number } else { NOTHING }
+}
+
+/// What is seen of a node of this number.
+fn seen(form: Form, number: FormId) -> Looked
+    ensures { result ≡ seen_of form number }
+{
+    match form {
+        Form::Word(token) => Looked::Word(token),
+        Form::More { before, item } => Looked::More(
+            child_before(before, number),
+            child_before(item, number),
+        ),
+        _ => Looked::Other,
+    }
+}
 
 /// The nodes that are made, the pile, and what is known of the nodes of the grammar.
 #[derive(Drop)]
@@ -32,6 +55,8 @@ impl Bench {
     ghost use Rattle.ink_core.specs.Parts as parts;
     ghost use Rattle.ink_core.specs.Pile as pile;
     ghost use Rattle.ink_core.specs.Sights as spec;
+    ghost use Rattle.ink_core.specs.Texts as texts;
+    ghost use Rattle.ink_core.specs.declared.part.Looked.TheVariants as looked;
 
     /// A bench with nothing on it.
     pub fn new(alloc: Global) -> Self
@@ -74,7 +99,7 @@ impl Bench {
     }
 
     /// Takes what has this number.
-    fn push_number(&mut self, number: FormId) -> Result<(), AllocError>
+    pub fn push_number(&mut self, number: FormId) -> Result<(), AllocError>
         requires { parts.Stands (length self.now.nodes.items) number }
         ensures taken { OnOk result (view.taken self.new ≡ built.at (view.forms self.old) number ∷ view.taken self.old) }
         ensures nodes { OnOk result (self.new.nodes.items ≡ self.old.nodes.items) }
@@ -131,6 +156,20 @@ impl Bench {
         }
     }
 
+    /// What is seen of the node of this number. A child that isn't before it stands for nothing.
+    pub fn look(&self, number: FormId) -> Looked
+        ensures sees { texts.Sees (view.forms self.now) (built.at (view.forms self.now) number) result }
+        ensures there { number ≡ 4294967295 → result ≡ looked.Other }
+        ensures before { parts.Stands number (texts.before_seen result) }
+        ensures before_stands { parts.Stands (length self.now.nodes.items) (texts.before_seen result) }
+        ensures item_stands { parts.Stands (length self.now.nodes.items) (texts.item_seen result) }
+    {
+        match self.nodes.get(number as usize) {
+            Some(form) => seen(*form, number),
+            None => Looked::Other,
+        }
+    }
+
     /// Makes a list of the two on top.
     pub fn more(&mut self) -> Result<(), AllocError>
         ensures taken { OnOk result (view.taken self.new ≡ core.More (pile.top (pile.rest (view.taken self.old))) (pile.top (view.taken self.old)) ∷ pile.rest (pile.rest (view.taken self.old))) }
@@ -139,6 +178,19 @@ impl Bench {
         let item = self.pop();
         let before = self.pop();
         self.push(Form::More { before, item })
+    }
+
+    /// Puts the third on top.
+    pub fn raise_third(&mut self) -> Result<(), AllocError>
+        ensures taken { OnOk result (view.taken self.new ≡ pile.top (pile.rest (pile.rest (view.taken self.old))) ∷ pile.top (view.taken self.old) ∷ pile.top (pile.rest (view.taken self.old)) ∷ pile.rest (pile.rest (pile.rest (view.taken self.old)))) }
+        ensures known { OnOk result (view.known self.new ≡ view.known self.old) }
+    {
+        let first = self.pop();
+        let second = self.pop();
+        let third = self.pop();
+        self.push_number(second)?;
+        self.push_number(first)?;
+        self.push_number(third)
     }
 
     /// Makes a statement of the one on top.
@@ -165,7 +217,11 @@ impl Bench {
         ensures known { OnOk result (view.known self.new ≡ view.known self.old) }
     {
         let statements = self.pop();
-        self.push(Form::Block { start, end, statements })
+        self.push(Form::Block {
+            start,
+            end,
+            statements,
+        })
     }
 
     /// Takes a keyword as a value.
@@ -176,9 +232,18 @@ impl Bench {
     {
         let start = token.start;
         self.push(match keyword {
-            Keyword::True => Form::Lit { start, literal: Literal::Bool(true) },
-            Keyword::False => Form::Lit { start, literal: Literal::Bool(false) },
-            Keyword::Nil => Form::Lit { start, literal: Literal::Nil },
+            Keyword::True => Form::Lit {
+                start,
+                literal: Literal::Bool(true),
+            },
+            Keyword::False => Form::Lit {
+                start,
+                literal: Literal::Bool(false),
+            },
+            Keyword::Nil => Form::Lit {
+                start,
+                literal: Literal::Nil,
+            },
             Keyword::SelfWord => Form::SelfValue { start },
             Keyword::Break => Form::Break { start },
             Keyword::Next => Form::Next { start },
@@ -194,7 +259,11 @@ impl Bench {
         let start = token.start;
         self.push(Form::SelfValue { start })?;
         let base = self.pop();
-        self.push(Form::Field { start, name: token, base })
+        self.push(Form::Field {
+            start,
+            name: token,
+            base,
+        })
     }
 
     /// Takes a token as a value.
@@ -207,7 +276,10 @@ impl Bench {
         match token.shape {
             Shape::Name => self.push(Form::Var(token)),
             Shape::Field => self.take_field(token),
-            Shape::Integer | Shape::Hexadecimal => self.push(Form::Lit { start, literal: Literal::Int(token) }),
+            Shape::Integer | Shape::Hexadecimal => self.push(Form::Lit {
+                start,
+                literal: Literal::Int(token),
+            }),
             Shape::Underscore => self.push(Form::Wildcard { start }),
             Shape::Keyword(keyword) => self.take_keyword(keyword, token),
             _ => self.push(Form::Word(token)),
@@ -221,11 +293,20 @@ impl Bench {
     {
         self.push_nothing()?;
         let arguments = self.pop();
-        self.push(Form::New { start, made, arguments })
+        self.push(Form::New {
+            start,
+            made,
+            arguments,
+        })
     }
 
     /// Takes statements of which the last is a value.
-    fn take_statements(&mut self, before: FormId, start: u32, value: FormId) -> Result<(), AllocError>
+    fn take_statements(
+        &mut self,
+        before: FormId,
+        start: u32,
+        value: FormId,
+    ) -> Result<(), AllocError>
         requires before { parts.Stands (length self.now.nodes.items) before }
         requires value { parts.Stands (length self.now.nodes.items) value }
         ensures taken { OnOk result (view.taken self.new ≡ core.More (built.at (view.forms self.old) before) (core.Statement start (built.at (view.forms self.old) value)) ∷ view.taken self.old) }
@@ -271,6 +352,50 @@ impl Bench {
                 self.block(opening, closing)
             }
         }
+    }
+
+    /// The node of this number, as a child of the next node that is made.
+    pub fn child(&mut self, a: u32) -> Result<FormId, AllocError>
+        ensures child { IfOk result (λ child. built.at (view.forms self.new) child ≡ (of.at (view.known self.old) a).core) }
+        ensures taken { OnOk result (view.taken self.new ≡ view.taken self.old) }
+        ensures known { OnOk result (view.known self.new ≡ view.known self.old) }
+    {
+        self.take(a)?;
+        Ok(self.pop())
+    }
+
+    /// The nodes of these two numbers.
+    pub fn two_children(&mut self, a: u32, b: u32) -> Result<(FormId, FormId), AllocError>
+        ensures first { IfOk result (λ children. built.at (view.forms self.new) children.0 ≡ (of.at (view.known self.old) a).core) }
+        ensures second { IfOk result (λ children. built.at (view.forms self.new) children.1 ≡ (of.at (view.known self.old) b).core) }
+        ensures taken { OnOk result (view.taken self.new ≡ view.taken self.old) }
+        ensures known { OnOk result (view.known self.new ≡ view.known self.old) }
+    {
+        self.take(a)?;
+        self.take(b)?;
+        let second = self.pop();
+        Ok((self.pop(), second))
+    }
+
+    /// The nodes of these three numbers.
+    pub fn three_children(
+        &mut self,
+        a: u32,
+        b: u32,
+        c: u32,
+    ) -> Result<(FormId, FormId, FormId), AllocError>
+        ensures first { IfOk result (λ children. built.at (view.forms self.new) children.0 ≡ (of.at (view.known self.old) a).core) }
+        ensures second { IfOk result (λ children. built.at (view.forms self.new) children.1 ≡ (of.at (view.known self.old) b).core) }
+        ensures third { IfOk result (λ children. built.at (view.forms self.new) children.2 ≡ (of.at (view.known self.old) c).core) }
+        ensures taken { OnOk result (view.taken self.new ≡ view.taken self.old) }
+        ensures known { OnOk result (view.known self.new ≡ view.known self.old) }
+    {
+        self.take(a)?;
+        self.take(b)?;
+        self.take(c)?;
+        let third = self.pop();
+        let second = self.pop();
+        Ok((self.pop(), second, third))
     }
 
     /// Takes a list that another item follows: a value at its end is given up.
@@ -358,7 +483,9 @@ impl Bench {
         ensures { OnOk result (view.known self.new ≡ view.known self.old ++ spec.block start (of.at (view.known self.old) statements) end ∷ []) }
     {
         match self.part(statements) {
-            Part::Statements(before, last, value) => self.keep_part(Part::Body(start, end, before, last, value)),
+            Part::Statements(before, last, value) => self.keep_part(Part::Body(
+                start, end, before, last, value,
+            )),
             _ => {
                 self.take(statements)?;
                 self.block(start, end)?;

@@ -19,12 +19,20 @@ fn open_arm(bench: &mut Bench, here: u32, truth: bool) -> Result<(), AllocError>
     ensures taken { OnOk result (view.taken bench.new ≡ core.Missing ∷ core.Lit here (literal.Bool truth) ∷ view.taken bench.old) }
     ensures known { OnOk result (view.known bench.new ≡ view.known bench.old) }
 {
-    bench.push(Form::Lit { start: here, literal: Literal::Bool(truth) })?;
+    bench.push(Form::Lit {
+        start: here,
+        literal: Literal::Bool(truth),
+    })?;
     bench.push_nothing()
 }
 
 /// Begins the arm of a result, which binds what is in it.
-fn open_result_arm(bench: &mut Bench, here: u32, made: Constructed, word: Token) -> Result<(), AllocError>
+fn open_result_arm(
+    bench: &mut Bench,
+    here: u32,
+    made: Constructed,
+    word: Token,
+) -> Result<(), AllocError>
     ensures taken { OnOk result (view.taken bench.new ≡ core.Missing ∷ core.New here made (spec.list_of_one (core.Var word)) ∷ view.taken bench.old) }
     ensures known { OnOk result (view.known bench.new ≡ view.known bench.old) }
 {
@@ -32,7 +40,11 @@ fn open_result_arm(bench: &mut Bench, here: u32, made: Constructed, word: Token)
     bench.push(Form::Var(word))?;
     bench.more()?;
     let arguments = bench.pop();
-    bench.push(Form::New { start: here, made, arguments })?;
+    bench.push(Form::New {
+        start: here,
+        made,
+        arguments,
+    })?;
     bench.push_nothing()
 }
 
@@ -44,7 +56,12 @@ fn close_arm(bench: &mut Bench, start: u32) -> Result<(), AllocError>
     let value = bench.pop();
     let guard = bench.pop();
     let pattern = bench.pop();
-    bench.push(Form::Arm { start, pattern, guard, value })?;
+    bench.push(Form::Arm {
+        start,
+        pattern,
+        guard,
+        value,
+    })?;
     bench.more()
 }
 
@@ -55,11 +72,22 @@ fn close_match(bench: &mut Bench, start: u32, choice: Choice) -> Result<(), Allo
 {
     let arms = bench.pop();
     let scrutinee = bench.pop();
-    bench.push(Form::Match { start, choice, scrutinee, arms })
+    bench.push(Form::Match {
+        start,
+        choice,
+        scrutinee,
+        arms,
+    })
 }
 
 /// `a and b`.
-pub(crate) fn and(bench: &mut Bench, start: u32, here: u32, a: u32, b: u32) -> Result<(), AllocError>
+pub(crate) fn and(
+    bench: &mut Bench,
+    start: u32,
+    here: u32,
+    a: u32,
+    b: u32,
+) -> Result<(), AllocError>
     ensures taken { OnOk result (view.taken bench.new ≡ spec.and start here (at (view.known bench.old) a).core (at (view.known bench.old) b).core ∷ view.taken bench.old) }
     ensures known { OnOk result (view.known bench.new ≡ view.known bench.old) }
 {
@@ -69,7 +97,10 @@ pub(crate) fn and(bench: &mut Bench, start: u32, here: u32, a: u32, b: u32) -> R
     bench.take(b)?;
     close_arm(bench, here)?;
     open_arm(bench, here, false)?;
-    bench.push(Form::Lit { start: here, literal: Literal::Bool(false) })?;
+    bench.push(Form::Lit {
+        start: here,
+        literal: Literal::Bool(false),
+    })?;
     close_arm(bench, here)?;
     close_match(bench, start, Choice::And(here))
 }
@@ -82,7 +113,10 @@ pub(crate) fn or(bench: &mut Bench, start: u32, here: u32, a: u32, b: u32) -> Re
     bench.take(a)?;
     bench.push(Form::Empty)?;
     open_arm(bench, here, true)?;
-    bench.push(Form::Lit { start: here, literal: Literal::Bool(true) })?;
+    bench.push(Form::Lit {
+        start: here,
+        literal: Literal::Bool(true),
+    })?;
     close_arm(bench, here)?;
     open_arm(bench, here, false)?;
     bench.take(b)?;
@@ -91,7 +125,13 @@ pub(crate) fn or(bench: &mut Bench, start: u32, here: u32, a: u32, b: u32) -> Re
 }
 
 /// `if c x else y`.
-pub(crate) fn if_else(bench: &mut Bench, start: u32, c: u32, x: u32, y: u32) -> Result<(), AllocError>
+pub(crate) fn if_else(
+    bench: &mut Bench,
+    start: u32,
+    c: u32,
+    x: u32,
+    y: u32,
+) -> Result<(), AllocError>
     ensures taken { OnOk result (view.taken bench.new ≡ spec.if_else start (at (view.known bench.old) c).core (at (view.known bench.old) x).core (at (view.known bench.old) y).core ∷ view.taken bench.old) }
     ensures known { OnOk result (view.known bench.new ≡ view.known bench.old) }
 {
@@ -118,7 +158,10 @@ pub(crate) fn if_alone(bench: &mut Bench, start: u32, c: u32, x: u32) -> Result<
     bench.give_up(start)?;
     close_arm(bench, start)?;
     open_arm(bench, start, false)?;
-    bench.push(Form::Lit { start, literal: Literal::Nil })?;
+    bench.push(Form::Lit {
+        start,
+        literal: Literal::Nil,
+    })?;
     close_arm(bench, start)?;
     close_match(bench, start, Choice::If)
 }
@@ -165,7 +208,11 @@ fn close_error(bench: &mut Bench, here: u32) -> Result<(), AllocError>
     ensures known { OnOk result (view.known bench.new ≡ view.known bench.old) }
 {
     let arguments = bench.pop();
-    bench.push(Form::New { start: here, made: Constructed::Error, arguments })?;
+    bench.push(Form::New {
+        start: here,
+        made: Constructed::Error,
+        arguments,
+    })?;
     let value = bench.pop();
     bench.push(Form::Return { start: here, value })
 }
@@ -193,7 +240,12 @@ fn thrown_again(bench: &mut Bench, here: u32, word: Token) -> Result<(), AllocEr
 }
 
 /// `try e`, by its word.
-pub(crate) fn try_value(bench: &mut Bench, start: u32, word: Token, e: u32) -> Result<(), AllocError>
+pub(crate) fn try_value(
+    bench: &mut Bench,
+    start: u32,
+    word: Token,
+    e: u32,
+) -> Result<(), AllocError>
     ensures taken { OnOk result (view.taken bench.new ≡ spec.try start word (at (view.known bench.old) e).core ∷ view.taken bench.old) }
     ensures known { OnOk result (view.known bench.new ≡ view.known bench.old) }
 {

@@ -83,75 +83,245 @@ pub enum Form {
     /// A list without items.
     Empty,
     /// A list and the item behind it.
-    More { before: FormId, item: FormId },
+    More {
+        before: FormId,
+        item: FormId,
+    },
     /// A value that counts as a statement for its temporaries. It begins where the statement does, parentheses included.
-    Statement { start: u32, value: FormId },
+    Statement {
+        start: u32,
+        value: FormId,
+    },
 
-    Lit { start: u32, literal: Literal },
+    Lit {
+        start: u32,
+        literal: Literal,
+    },
     /// A variable; in a pattern one that it binds, in an import a name. Where it stands for the value that `try` found,
     /// its name is the word `try`, which no source can give to a variable.
     Var(Token),
-    SelfValue { start: u32 },
+    SelfValue {
+        start: u32,
+    },
     /// A field or a method without arguments, by its name, or the part of a tuple, by its number.
-    Field { start: u32, name: Token, base: FormId },
-    Borrow { start: u32, kind: BorrowKind, operand: FormId },
+    Field {
+        start: u32,
+        name: Token,
+        base: FormId,
+    },
+    Borrow {
+        start: u32,
+        kind: BorrowKind,
+        operand: FormId,
+    },
     /// A write, with the byte of its operator.
-    Set { start: u32, operator: u32, place: FormId, value: FormId },
-    Swap { start: u32, operator: u32, place: FormId, value: FormId },
+    Set {
+        start: u32,
+        operator: u32,
+        place: FormId,
+        value: FormId,
+    },
+    Swap {
+        start: u32,
+        operator: u32,
+        place: FormId,
+        value: FormId,
+    },
     /// A variable, or `_`, which is never mutable.
-    Let { start: u32, mutable: bool, name: Token, annotation: FormId, value: FormId },
+    Let {
+        start: u32,
+        mutable: bool,
+        name: Token,
+        annotation: FormId,
+        value: FormId,
+    },
     /// The bytes of both braces, and the statements, of which a `Statement` can only be the last. Any other value has a
     /// `Drop`.
-    Block { start: u32, end: u32, statements: FormId },
+    Block {
+        start: u32,
+        end: u32,
+        statements: FormId,
+    },
     /// A new object; in a pattern the constructor that it matches, in a list of bounds a trait.
-    New { start: u32, made: Constructed, arguments: FormId },
-    Arr { start: u32, items: FormId },
-    Call { start: u32, method: Selector, receiver: FormId, arguments: FormId },
+    New {
+        start: u32,
+        made: Constructed,
+        arguments: FormId,
+    },
+    Arr {
+        start: u32,
+        items: FormId,
+    },
+    Call {
+        start: u32,
+        method: Selector,
+        receiver: FormId,
+        arguments: FormId,
+    },
     /// A call of a method of the module.
-    Fn { name: Token, arguments: FormId },
-    Static { start: u32, owner: Token, name: Token, arguments: FormId },
-    Match { start: u32, choice: Choice, scrutinee: FormId, arms: FormId },
-    Loop { start: u32, body: FormId },
-    Break { start: u32 },
-    Next { start: u32 },
-    Return { start: u32, value: FormId },
-    Recover { start: u32, operand: FormId },
-    Panic { start: u32, arguments: FormId },
+    Fn {
+        name: Token,
+        arguments: FormId,
+    },
+    Static {
+        start: u32,
+        owner: Token,
+        name: Token,
+        arguments: FormId,
+    },
+    Match {
+        start: u32,
+        choice: Choice,
+        scrutinee: FormId,
+        arms: FormId,
+    },
+    Loop {
+        start: u32,
+        body: FormId,
+    },
+    Break {
+        start: u32,
+    },
+    Next {
+        start: u32,
+    },
+    Return {
+        start: u32,
+        value: FormId,
+    },
+    Recover {
+        start: u32,
+        operand: FormId,
+    },
+    Panic {
+        start: u32,
+        arguments: FormId,
+    },
     /// A value that is given up.
-    Drop { start: u32, value: FormId },
+    Drop {
+        start: u32,
+        value: FormId,
+    },
 
     /// One arm of a `Match`.
-    Arm { start: u32, pattern: FormId, guard: FormId, value: FormId },
+    Arm {
+        start: u32,
+        pattern: FormId,
+        guard: FormId,
+        value: FormId,
+    },
     /// An argument with the name of its field.
-    Named { name: Token, value: FormId },
+    Named {
+        name: Token,
+        value: FormId,
+    },
 
     /// The pattern `_`.
-    Wildcard { start: u32 },
+    Wildcard {
+        start: u32,
+    },
     /// The alternatives so far and the next one.
-    Either { start: u32, before: FormId, next: FormId },
-    MutableName { start: u32, name: Token },
-    FieldPattern { name: Token, pattern: FormId },
-    FieldPatterns { start: u32, patterns: FormId },
+    Either {
+        start: u32,
+        before: FormId,
+        next: FormId,
+    },
+    MutableName {
+        start: u32,
+        name: Token,
+    },
+    FieldPattern {
+        name: Token,
+        pattern: FormId,
+    },
+    FieldPatterns {
+        start: u32,
+        patterns: FormId,
+    },
 
-    NamedType { name: Token, arguments: FormId },
+    NamedType {
+        name: Token,
+        arguments: FormId,
+    },
     /// A type behind `ref`, `mut` or `uni`.
-    PrefixedType { prefix: Token, bare: FormId },
-    TupleType { start: u32, parts: FormId },
+    PrefixedType {
+        prefix: Token,
+        bare: FormId,
+    },
+    TupleType {
+        start: u32,
+        parts: FormId,
+    },
 
-    Module { imports: FormId, declarations: FormId },
-    Import { start: u32, path: FormId, names: FormId },
-    TypeParameter { name: Token, bounds: FormId },
-    Parameter { name: Token, annotation: FormId },
+    Module {
+        imports: FormId,
+        declarations: FormId,
+    },
+    Import {
+        start: u32,
+        path: FormId,
+        names: FormId,
+    },
+    TypeParameter {
+        name: Token,
+        bounds: FormId,
+    },
+    Parameter {
+        name: Token,
+        annotation: FormId,
+    },
     /// Type parameters, parameters and a result, each of which may be nothing.
-    Signature { name: Token, type_parameters: FormId, parameters: FormId, result: FormId },
-    Constructor { start: u32, name: Token, types: FormId },
-    FieldDeclaration { start: u32, words: FormId, name: Token, annotation: FormId },
-    Method { start: u32, words: FormId, signature: FormId, body: FormId },
-    TraitMethod { start: u32, words: FormId, name: Token, parameters: FormId, result: FormId },
-    Trait { start: u32, words: FormId, name: Token, methods: FormId },
+    Signature {
+        name: Token,
+        type_parameters: FormId,
+        parameters: FormId,
+        result: FormId,
+    },
+    Constructor {
+        start: u32,
+        name: Token,
+        types: FormId,
+    },
+    FieldDeclaration {
+        start: u32,
+        words: FormId,
+        name: Token,
+        annotation: FormId,
+    },
+    Method {
+        start: u32,
+        words: FormId,
+        signature: FormId,
+        body: FormId,
+    },
+    TraitMethod {
+        start: u32,
+        words: FormId,
+        name: Token,
+        parameters: FormId,
+        result: FormId,
+    },
+    Trait {
+        start: u32,
+        words: FormId,
+        name: Token,
+        methods: FormId,
+    },
     /// The methods of a type, and the trait that they implement, if one is named.
-    Implementation { start: u32, name: Token, of_trait: Option<Token>, methods: FormId },
-    TypeDeclaration { start: u32, form: TypeForm, words: FormId, name: Token, type_parameters: FormId, members: FormId },
+    Implementation {
+        start: u32,
+        name: Token,
+        of_trait: Option<Token>,
+        methods: FormId,
+    },
+    TypeDeclaration {
+        start: u32,
+        form: TypeForm,
+        words: FormId,
+        name: Token,
+        type_parameters: FormId,
+        members: FormId,
+    },
 }
 
 /// The core form of a module: its nodes, each after its children, and the number of the node that holds all.

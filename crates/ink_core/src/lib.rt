@@ -13,6 +13,10 @@ mod choices;
 mod form;
 mod part;
 mod spelled;
+mod table;
+mod texts;
 mod values;
+mod whole;
 
 pub use form::{Choice, Constructed, CoreModule, Form, FormId, Literal, Selector, TypeForm};
+pub use whole::desugar;

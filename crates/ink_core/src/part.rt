@@ -51,3 +51,12 @@ pub(crate) const NO_TOKEN: Token = Token {
     end: 0,
     new_line: false,
 };
+
+/// What is seen of a node that is made, where it may be an item of a text or the list of them.
+#[derive(Clone, Copy)]
+pub(crate) enum Looked {
+    Word(Token),
+    /// A list and the item behind it.
+    More(FormId, FormId),
+    Other,
+}

@@ -53,7 +53,11 @@ pub(crate) fn close_new(bench: &mut Bench, start: u32, made: Constructed) -> Res
     ensures known { OnOk result (view.known bench.new ≡ view.known bench.old) }
 {
     let arguments = bench.pop();
-    bench.push(Form::New { start, made, arguments })
+    bench.push(Form::New {
+        start,
+        made,
+        arguments,
+    })
 }
 
 /// What a name makes.
@@ -68,7 +72,12 @@ pub(crate) fn made_of(label: Label) -> Constructed
 }
 
 /// A new object, by its name and its arguments.
-pub(crate) fn constructed_with(bench: &mut Bench, start: u32, name: u32, arguments: u32) -> Result<(), AllocError>
+pub(crate) fn constructed_with(
+    bench: &mut Bench,
+    start: u32,
+    name: u32,
+    arguments: u32,
+) -> Result<(), AllocError>
     ensures taken { OnOk result (view.taken bench.new ≡ core.New start (sights.made_of (at (view.known bench.old) name).label) (at (view.known bench.old) arguments).core ∷ view.taken bench.old) }
     ensures known { OnOk result (view.known bench.new ≡ view.known bench.old) }
 {
@@ -84,12 +93,22 @@ pub(crate) fn close_call(bench: &mut Bench, start: u32, method: Selector) -> Res
 {
     let arguments = bench.pop();
     let receiver = bench.pop();
-    bench.push(Form::Call { start, method, receiver, arguments })
+    bench.push(Form::Call {
+        start,
+        method,
+        receiver,
+        arguments,
+    })
 }
 
 /// A call of a method of the module by its name.
 #[tactic(auto, unfolding(crate::specs::Forms::called))]
-pub(crate) fn called(bench: &mut Bench, source: &[u8], name: Token, arguments: u32) -> Result<(), AllocError>
+pub(crate) fn called(
+    bench: &mut Bench,
+    source: &[u8],
+    name: Token,
+    arguments: u32,
+) -> Result<(), AllocError>
     ensures taken { OnOk result (view.taken bench.new ≡ spec.called source.now name (at (view.known bench.old) arguments).core ∷ view.taken bench.old) }
     ensures known { OnOk result (view.known bench.new ≡ view.known bench.old) }
 {
@@ -97,7 +116,10 @@ pub(crate) fn called(bench: &mut Bench, source: &[u8], name: Token, arguments: u
     bench.take(arguments)?;
     let arguments = bench.pop();
     if is_panic {
-        bench.push(Form::Panic { start: name.start, arguments })
+        bench.push(Form::Panic {
+            start: name.start,
+            arguments,
+        })
     } else {
         bench.push(Form::Fn { name, arguments })
     }
@@ -114,7 +136,12 @@ pub(crate) fn owner_of(label: Label) -> Option<Token>
 }
 
 /// A link without arguments.
-pub(crate) fn linked(bench: &mut Bench, start: u32, base: u32, name: Token) -> Result<(), AllocError>
+pub(crate) fn linked(
+    bench: &mut Bench,
+    start: u32,
+    base: u32,
+    name: Token,
+) -> Result<(), AllocError>
     ensures taken { OnOk result (view.taken bench.new ≡ spec.linked start (spec.owner_of (at (view.known bench.old) base).label) (at (view.known bench.old) base).core name ∷ view.taken bench.old) }
     ensures known { OnOk result (view.known bench.new ≡ view.known bench.old) }
 {
@@ -122,7 +149,12 @@ pub(crate) fn linked(bench: &mut Bench, start: u32, base: u32, name: Token) -> R
         Some(owner) => {
             bench.push_nothing()?;
             let arguments = bench.pop();
-            bench.push(Form::Static { start, owner, name, arguments })
+            bench.push(Form::Static {
+                start,
+                owner,
+                name,
+                arguments,
+            })
         }
         None => field(bench, start, base, name),
     }
@@ -139,7 +171,13 @@ pub(crate) fn field(bench: &mut Bench, start: u32, base: u32, name: Token) -> Re
 }
 
 /// A link with arguments.
-pub(crate) fn linked_call(bench: &mut Bench, start: u32, base: u32, name: Token, arguments: u32) -> Result<(), AllocError>
+pub(crate) fn linked_call(
+    bench: &mut Bench,
+    start: u32,
+    base: u32,
+    name: Token,
+    arguments: u32,
+) -> Result<(), AllocError>
     ensures taken { OnOk result (view.taken bench.new ≡ spec.linked_call start (spec.owner_of (at (view.known bench.old) base).label) (at (view.known bench.old) base).core name (at (view.known bench.old) arguments).core ∷ view.taken bench.old) }
     ensures known { OnOk result (view.known bench.new ≡ view.known bench.old) }
 {
@@ -147,7 +185,12 @@ pub(crate) fn linked_call(bench: &mut Bench, start: u32, base: u32, name: Token,
         Some(owner) => {
             bench.take(arguments)?;
             let arguments = bench.pop();
-            bench.push(Form::Static { start, owner, name, arguments })
+            bench.push(Form::Static {
+                start,
+                owner,
+                name,
+                arguments,
+            })
         }
         None => {
             bench.take(base)?;
@@ -159,7 +202,13 @@ pub(crate) fn linked_call(bench: &mut Bench, start: u32, base: u32, name: Token,
 
 /// Two operands with the operator between them.
 #[tactic(auto, unfolding(crate::specs::Forms::operated))]
-pub(crate) fn operated(bench: &mut Bench, start: u32, sign: Token, a: u32, b: u32) -> Result<(), AllocError>
+pub(crate) fn operated(
+    bench: &mut Bench,
+    start: u32,
+    sign: Token,
+    a: u32,
+    b: u32,
+) -> Result<(), AllocError>
     ensures taken { OnOk result (view.taken bench.new ≡ spec.operated start sign.shape sign (at (view.known bench.old) a).core (at (view.known bench.old) b).core ∷ view.taken bench.old) }
     ensures known { OnOk result (view.known bench.new ≡ view.known bench.old) }
 {
@@ -191,12 +240,23 @@ fn close_set(bench: &mut Bench, start: u32, operator: u32) -> Result<(), AllocEr
 {
     let value = bench.pop();
     let place = bench.pop();
-    bench.push(Form::Set { start, operator, place, value })
+    bench.push(Form::Set {
+        start,
+        operator,
+        place,
+        value,
+    })
 }
 
 /// A write to a place.
 #[tactic(auto, unfolding(crate::specs::Forms::assigned))]
-pub(crate) fn assigned(bench: &mut Bench, start: u32, sign: Token, place: u32, value: u32) -> Result<(), AllocError>
+pub(crate) fn assigned(
+    bench: &mut Bench,
+    start: u32,
+    sign: Token,
+    place: u32,
+    value: u32,
+) -> Result<(), AllocError>
     ensures taken { OnOk result (view.taken bench.new ≡ spec.assigned start sign.shape sign (at (view.known bench.old) place).core (at (view.known bench.old) value).core ∷ view.taken bench.old) }
     ensures known { OnOk result (view.known bench.new ≡ view.known bench.old) }
 {
@@ -210,7 +270,12 @@ pub(crate) fn assigned(bench: &mut Bench, start: u32, sign: Token, place: u32, v
             bench.take(value)?;
             let value = bench.pop();
             let place = bench.pop();
-            bench.push(Form::Swap { start, operator: sign.start, place, value })
+            bench.push(Form::Swap {
+                start,
+                operator: sign.start,
+                place,
+                value,
+            })
         }
         _ => {
             changed(bench, sign, place, value)?;
@@ -225,7 +290,10 @@ pub(crate) fn returned(bench: &mut Bench, start: u32, value: u32) -> Result<(), 
     ensures known { OnOk result (view.known bench.new ≡ view.known bench.old) }
 {
     match bench.label(value) {
-        Label::Absent => bench.push(Form::Lit { start, literal: Literal::Nil })?,
+        Label::Absent => bench.push(Form::Lit {
+            start,
+            literal: Literal::Nil,
+        })?,
         _ => bench.take(value)?,
     }
     let value = bench.pop();
