@@ -1,5 +1,5 @@
 -- Lists of nodes, of numbers and of parts that grow at their ends.
-use Rattle.std.proofs.Common.{◌≡◌, ℕ, ◌+◌, ◌-◌, ◌<◌, ◌≤◌, List, [], ◌∷◌, ◌++◌, length, map, reverse, take, get_or, true, false, nat_lt, refl, sym, ap, subst, ◌∙◌, arith, length-append, All, add-one}
+use Rattle.std.proofs.Common.{◌≡◌, ℕ, ◌+◌, ◌<◌, ◌≤◌, List, [], ◌∷◌, ◌++◌, length, map, reverse, get_or, nat_lt, refl, sym, ap, subst, ◌∙◌, arith, length-append, All}
 use Rattle.std.proofs.lemmas.Bool.{ltb-true, ltb-false}
 use Rattle.ink_grammar.proofs.Bools.{by_cases}
 use Rattle.std.proofs.lemmas.List.{reverse-append, map-append, get_or_past, get_or_append_left, get_or_push}
@@ -11,11 +11,11 @@ use Rattle.ink_core.specs.declared.part.Part.TheVariants as part
 use Rattle.ink_core.specs.declared.part.Label.TheVariants as label
 use Rattle.ink_core.specs.Core.{Core, Missing, More, Statement, Block}
 use Rattle.ink_core.specs.Built.{at, grow, onto, cores, cores_of}
-use Rattle.ink_core.specs.Parts.{Stands, PartStands, value_number, before_number, sight_of, sights_of}
+use Rattle.ink_core.specs.Parts.{Stands, PartStands, sight_of, sights_of}
 use Rattle.ink_core.specs.Pile.{top, rest}
 use Rattle.ink_core.specs.Known as known
 use Rattle.std.proofs.Math.ListN.{get_or-map}
-use Rattle.ink_core.specs.Sights.{Sight, plain, nothing}
+use Rattle.ink_core.specs.Sights.{plain, nothing}
 
 onto_push : (fs : List Core) (ns : List Form) (x : Form) → onto fs (ns ++ x ∷ []) ≡ onto fs ns ++ grow (onto fs ns) x ∷ []
 onto_push fs [] x = refl

@@ -1,9 +1,8 @@
 -- The texts of lists.
-use Rattle.std.proofs.Common.{◌≡◌, ℕ, zero, suc, ◌+◌, ◌-◌, ◌<◌, ◌≤◌, Bool, true, false, nat_eq, nat_lt, List, [], ◌∷◌, ◌++◌, length, if◌then◌else◌, refl, sym, ap, ◌∙◌, arith, length-append}
+use Rattle.std.proofs.Common.{◌≡◌, ℕ, zero, suc, ◌+◌, ◌-◌, ◌<◌, ◌≤◌, nat_eq, nat_lt, List, [], ◌∷◌, ◌++◌, length, if◌then◌else◌, refl, sym, ap, ◌∙◌, arith}
 use Rattle.std.proofs.lemmas.Bool.{ltb-true, ltb-false, eqb-true, eqb-false}
 use Rattle.ink_grammar.proofs.Bools.{by_cases}
-use Rattle.ink_core.specs.Core.{Core, More}
-use Rattle.ink_core.specs.Built.{at}
+use Rattle.ink_core.specs.Core.{Core}
 use Rattle.ink_core.specs.Parts.{Stands}
 use Rattle.ink_core.specs.Pile.{top, rest}
 use Rattle.ink_core.specs.Texts.{items_of, piece, joined, first_piece, text_from, text_of, text, join, join_times}

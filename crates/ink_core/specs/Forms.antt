@@ -3,7 +3,6 @@ use Rattle.std.specs.Prelude.{ℕ, Bool, true, false, if◌then◌else◌, List,
 use Rattle.ink_base.specs.declared.ident.BorrowKind.{BorrowKind}
 use Rattle.ink_base.specs.declared.ident.BorrowKind.TheVariants as borrow
 use Rattle.ink_grammar.specs.declared.token.Keyword.TheVariants as keyword
-use Rattle.ink_grammar.specs.declared.token.Mark.{Mark}
 use Rattle.ink_grammar.specs.declared.token.Mark.TheVariants as mark
 use Rattle.ink_grammar.specs.declared.token.Shape.{Shape}
 use Rattle.ink_grammar.specs.declared.token.Shape.TheVariants as shape
@@ -18,9 +17,7 @@ use Rattle.ink_grammar.specs.declared.tree.FourChildren.{FourChildren}
 use Rattle.ink_grammar.specs.declared.tree.FourChildren.TheVariants as four_of
 use Rattle.ink_grammar.specs.declared.tree.FiveChildren.{FiveChildren}
 use Rattle.ink_grammar.specs.declared.tree.FiveChildren.TheVariants as five_of
-use Rattle.ink_core.specs.declared.form.Literal.{Literal}
 use Rattle.ink_core.specs.declared.form.Literal.TheVariants as literal
-use Rattle.ink_core.specs.declared.form.Selector.{Selector}
 use Rattle.ink_core.specs.declared.form.Selector.TheVariants as method
 use Rattle.ink_core.specs.declared.form.Constructed.{Constructed}
 use Rattle.ink_core.specs.declared.form.Constructed.TheVariants as made
@@ -29,7 +26,7 @@ use Rattle.ink_core.specs.declared.form.Choice.TheVariants as choice
 use Rattle.ink_core.specs.declared.form.TypeForm.TheVariants as type_of
 use Rattle.ink_core.specs.declared.part.Label.{Label}
 use Rattle.ink_core.specs.declared.part.Label.TheVariants as label
-use Rattle.ink_core.specs.Core.{Core, Missing, Word, Empty, More, Lit, Var, Field, Borrow, Set, Swap, Let, New, Arr, Call, Fn, Static, Match, Loop, Break, Return, Recover, Panic, Drop, Arm, Named, Either, MutableName, FieldPattern, FieldPatterns, NamedType, PrefixedType, TupleType, Module, Import, TypeParameter, Parameter, Signature, Constructor, FieldDeclaration, Method, TraitMethod, Trait, Implementation, TypeDeclaration}
+use Rattle.ink_core.specs.Core.{Core, Missing, Empty, More, Lit, Var, Field, Borrow, Set, Swap, Let, New, Arr, Call, Fn, Static, Match, Loop, Break, Return, Recover, Panic, Drop, Arm, Named, Either, MutableName, FieldPattern, FieldPatterns, NamedType, PrefixedType, TupleType, Module, Import, TypeParameter, Parameter, Signature, Constructor, FieldDeclaration, Method, TraitMethod, Trait, Implementation, TypeDeclaration}
 use Rattle.ink_core.specs.Sights.{Sight, plain, token_of, made_of, written, is_spelled, constant, more, statement, block, given_up, signature_label}
 use Rattle.ink_core.specs.Texts.{text}
 

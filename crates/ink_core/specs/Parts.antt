@@ -3,7 +3,7 @@ use Rattle.std.specs.Prelude.{◌≡◌, ◌≤◌, ℕ, List, map}
 use Rattle.ink_core.specs.declared.part.Part.{Part}
 use Rattle.ink_core.specs.declared.part.Part.TheVariants as part
 use Rattle.ink_core.specs.declared.part.Label.TheVariants as label
-use Rattle.ink_core.specs.Core.{Core, More, Statement, Signature, Block}
+use Rattle.ink_core.specs.Core.{Core, More, Statement, Block}
 use Rattle.ink_core.specs.Built.{at}
 use Rattle.ink_core.specs.Sights.{Sight, nothing, plain, word, constant}
 

@@ -11,7 +11,7 @@ use Rattle.ink_core.specs.declared.form.Constructed.{Constructed}
 use Rattle.ink_core.specs.declared.form.Constructed.TheVariants as made
 use Rattle.ink_core.specs.declared.part.Label.{Label}
 use Rattle.ink_core.specs.declared.part.Label.TheVariants as label
-use Rattle.ink_core.specs.Core.{Core, Missing, Word, Empty, More, Statement, Lit, Var, SelfValue, Field, Block, New, Break, Next, Drop, Wildcard}
+use Rattle.ink_core.specs.Core.{Core, Missing, Word, More, Statement, Lit, Var, SelfValue, Field, Block, New, Break, Next, Drop, Wildcard}
 
 pub record Sight : Type 0 where
   pub core : Core

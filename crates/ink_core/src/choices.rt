@@ -84,44 +84,50 @@ fn close_match(bench: &mut Bench, start: u32, choice: Choice) -> Result<(), Allo
 pub(crate) fn and(
     bench: &mut Bench,
     start: u32,
-    here: u32,
+    at_and: u32,
     a: u32,
     b: u32,
 ) -> Result<(), AllocError>
-    ensures taken { OnOk result (view.taken bench.new ≡ spec.and start here (at (view.known bench.old) a).core (at (view.known bench.old) b).core ∷ view.taken bench.old) }
+    ensures taken { OnOk result (view.taken bench.new ≡ spec.and start at_and (at (view.known bench.old) a).core (at (view.known bench.old) b).core ∷ view.taken bench.old) }
     ensures known { OnOk result (view.known bench.new ≡ view.known bench.old) }
 {
     bench.take(a)?;
     bench.push(Form::Empty)?;
-    open_arm(bench, here, true)?;
+    open_arm(bench, at_and, true)?;
     bench.take(b)?;
-    close_arm(bench, here)?;
-    open_arm(bench, here, false)?;
+    close_arm(bench, at_and)?;
+    open_arm(bench, at_and, false)?;
     bench.push(Form::Lit {
-        start: here,
+        start: at_and,
         literal: Literal::Bool(false),
     })?;
-    close_arm(bench, here)?;
-    close_match(bench, start, Choice::And(here))
+    close_arm(bench, at_and)?;
+    close_match(bench, start, Choice::And(at_and))
 }
 
 /// `a or b`.
-pub(crate) fn or(bench: &mut Bench, start: u32, here: u32, a: u32, b: u32) -> Result<(), AllocError>
-    ensures taken { OnOk result (view.taken bench.new ≡ spec.or start here (at (view.known bench.old) a).core (at (view.known bench.old) b).core ∷ view.taken bench.old) }
+pub(crate) fn or(
+    bench: &mut Bench,
+    start: u32,
+    at_or: u32,
+    a: u32,
+    b: u32,
+) -> Result<(), AllocError>
+    ensures taken { OnOk result (view.taken bench.new ≡ spec.or start at_or (at (view.known bench.old) a).core (at (view.known bench.old) b).core ∷ view.taken bench.old) }
     ensures known { OnOk result (view.known bench.new ≡ view.known bench.old) }
 {
     bench.take(a)?;
     bench.push(Form::Empty)?;
-    open_arm(bench, here, true)?;
+    open_arm(bench, at_or, true)?;
     bench.push(Form::Lit {
-        start: here,
+        start: at_or,
         literal: Literal::Bool(true),
     })?;
-    close_arm(bench, here)?;
-    open_arm(bench, here, false)?;
+    close_arm(bench, at_or)?;
+    open_arm(bench, at_or, false)?;
     bench.take(b)?;
-    close_arm(bench, here)?;
-    close_match(bench, start, Choice::Or(here))
+    close_arm(bench, at_or)?;
+    close_match(bench, start, Choice::Or(at_or))
 }
 
 /// `if c x else y`.
@@ -146,6 +152,15 @@ pub(crate) fn if_else(
     close_match(bench, start, Choice::If)
 }
 
+/// Takes a block and gives its value up.
+fn take_dropped(bench: &mut Bench, start: u32, block: u32) -> Result<(), AllocError>
+    ensures taken { OnOk result (view.taken bench.new ≡ core.Drop start (at (view.known bench.old) block).core ∷ view.taken bench.old) }
+    ensures known { OnOk result (view.known bench.new ≡ view.known bench.old) }
+{
+    bench.take(block)?;
+    bench.give_up(start)
+}
+
 /// `if c x`.
 pub(crate) fn if_alone(bench: &mut Bench, start: u32, c: u32, x: u32) -> Result<(), AllocError>
     ensures taken { OnOk result (view.taken bench.new ≡ spec.if_alone start (at (view.known bench.old) c).core (at (view.known bench.old) x).core ∷ view.taken bench.old) }
@@ -154,8 +169,7 @@ pub(crate) fn if_alone(bench: &mut Bench, start: u32, c: u32, x: u32) -> Result<
     bench.take(c)?;
     bench.push(Form::Empty)?;
     open_arm(bench, start, true)?;
-    bench.take(x)?;
-    bench.give_up(start)?;
+    take_dropped(bench, start, x)?;
     close_arm(bench, start)?;
     open_arm(bench, start, false)?;
     bench.push(Form::Lit {
@@ -185,15 +199,14 @@ pub(crate) fn endless(bench: &mut Bench, start: u32, x: u32) -> Result<(), Alloc
 }
 
 /// `while c x`.
-pub(crate) fn while_loop(bench: &mut Bench, start: u32, c: u32, x: u32) -> Result<(), AllocError>
-    ensures taken { OnOk result (view.taken bench.new ≡ spec.while start (at (view.known bench.old) c).core (at (view.known bench.old) x).core ∷ view.taken bench.old) }
+pub(crate) fn while_loop(bench: &mut Bench, start: u32, c: u32, body: u32) -> Result<(), AllocError>
+    ensures taken { OnOk result (view.taken bench.new ≡ spec.while start (at (view.known bench.old) c).core (at (view.known bench.old) body).core ∷ view.taken bench.old) }
     ensures known { OnOk result (view.known bench.new ≡ view.known bench.old) }
 {
     bench.take(c)?;
     bench.push(Form::Empty)?;
     open_arm(bench, start, true)?;
-    bench.take(x)?;
-    bench.give_up(start)?;
+    take_dropped(bench, start, body)?;
     close_arm(bench, start)?;
     open_arm(bench, start, false)?;
     bench.push(Form::Break { start })?;
