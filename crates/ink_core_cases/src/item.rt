@@ -1,11 +1,11 @@
 //! What is still to be listed.
 use ink_core::FormId;
 use ink_grammar::Token;
-use std::alloc::{AllocError, Global};
 
 /// One thing to list.
 #[derive(Clone, Copy)]
 pub(crate) enum Item {
+    Nothing,
     Form(FormId),
     /// The items of a list, without its brackets.
     Inner(FormId),
@@ -16,64 +16,94 @@ pub(crate) enum Item {
 }
 
 /// The things that one node is listed as, in order.
-#[derive(Drop)]
-pub(crate) struct Line {
-    items: Vec<Item>,
+pub(crate) type Line = [Item; 8];
+
+const NOTHING: Item = Item::Nothing;
+
+const OPENING: Item = Item::Word(b"(");
+
+const CLOSING: Item = Item::Word(b")");
+
+/// A word or a token by itself, with its place.
+pub(crate) fn leaf(items: [Item; 2], place: Item) -> Line {
+    let [first, second] = items;
+    [
+        first, second, place, NOTHING, NOTHING, NOTHING, NOTHING, NOTHING,
+    ]
 }
 
-impl Line {
-    pub fn new(alloc: Global) -> Self {
-        Line {
-            items: Vec::new(alloc),
-        }
-    }
+/// A word with its place, and what is known of the node beside its children, of which it has none.
+pub(crate) fn none(word: &'static [u8], start: u32, more: [Item; 2]) -> Line {
+    let [first, second] = more;
+    [
+        OPENING,
+        Item::Word(word),
+        Item::At(start),
+        first,
+        second,
+        CLOSING,
+        NOTHING,
+        NOTHING,
+    ]
+}
 
-    pub fn word(&mut self, word: &'static [u8]) -> Result<(), AllocError> {
-        self.items.push(Item::Word(word))?;
-        Ok(())
-    }
+/// The same with one child.
+pub(crate) fn one(word: &'static [u8], start: u32, more: [Item; 2], child: FormId) -> Line {
+    let [first, second] = more;
+    [
+        OPENING,
+        Item::Word(word),
+        Item::At(start),
+        first,
+        second,
+        Item::Form(child),
+        CLOSING,
+        NOTHING,
+    ]
+}
 
-    pub fn token(&mut self, token: Token) -> Result<(), AllocError> {
-        self.items.push(Item::Token(token))?;
-        Ok(())
-    }
+/// The same with two children.
+pub(crate) fn two(word: &'static [u8], start: u32, more: [Item; 2], children: [FormId; 2]) -> Line {
+    let [first, second] = more;
+    let [a, b] = children;
+    [
+        OPENING,
+        Item::Word(word),
+        Item::At(start),
+        first,
+        second,
+        Item::Form(a),
+        Item::Form(b),
+        CLOSING,
+    ]
+}
 
-    pub fn at(&mut self, byte: u32) -> Result<(), AllocError> {
-        self.items.push(Item::At(byte))?;
-        Ok(())
-    }
+/// The same with three children and less beside them.
+pub(crate) fn three(word: &'static [u8], start: u32, more: Item, children: [FormId; 3]) -> Line {
+    let [a, b, c] = children;
+    [
+        OPENING,
+        Item::Word(word),
+        Item::At(start),
+        more,
+        Item::Form(a),
+        Item::Form(b),
+        Item::Form(c),
+        CLOSING,
+    ]
+}
 
-    pub fn form(&mut self, number: FormId) -> Result<(), AllocError> {
-        self.items.push(Item::Form(number))?;
-        Ok(())
-    }
-
-    pub fn inner(&mut self, number: FormId) -> Result<(), AllocError> {
-        self.items.push(Item::Inner(number))?;
-        Ok(())
-    }
-
-    /// A word with its place.
-    pub fn head(&mut self, word: &'static [u8], start: u32) -> Result<(), AllocError> {
-        self.word(b"(")?;
-        self.word(word)?;
-        self.at(start)
-    }
-
-    /// Two nodes and the end.
-    pub fn tail(&mut self, first: FormId, second: FormId) -> Result<(), AllocError> {
-        self.form(first)?;
-        self.last(second)
-    }
-
-    /// A node and the end.
-    pub fn last(&mut self, number: FormId) -> Result<(), AllocError> {
-        self.form(number)?;
-        self.word(b")")
-    }
-
-    /// Takes the last thing.
-    pub fn pop(&mut self) -> Option<Item> {
-        self.items.pop()
-    }
+/// A token and what belongs to it.
+pub(crate) fn named(name: Token, children: [Item; 3]) -> Line {
+    let [a, b, c] = children;
+    [
+        OPENING,
+        Item::Token(name),
+        a,
+        b,
+        c,
+        CLOSING,
+        NOTHING,
+        NOTHING,
+    ]
 }

@@ -1,455 +1,306 @@
 //! How each form is listed.
-use crate::item::Line;
+use crate::item::{Item, Line, leaf, named, none, one, three, two};
 use ink_base::BorrowKind;
-use ink_core::{Choice, Constructed, Form, Literal, Selector};
-use std::alloc::AllocError;
+use ink_core::{Choice, Constructed, Form, Literal, Selector, TypeForm};
+use ink_grammar::Token;
 
-fn literal(line: &mut Line, literal: Literal) -> Result<(), AllocError> {
+const NONE: [Item; 2] = [Item::Nothing, Item::Nothing];
+
+fn literal(literal: Literal) -> [Item; 2] {
     match literal {
-        Literal::Int(token) => line.token(token),
-        Literal::Bool(true) => line.word(b"true"),
-        Literal::Bool(false) => line.word(b"false"),
-        Literal::Nil => line.word(b"nil"),
-        Literal::Text(token) => {
-            line.word(b"'")?;
-            line.token(token)
-        }
-        Literal::EmptyText => line.word(b"''"),
+        Literal::Int(token) => [Item::Token(token), Item::Nothing],
+        Literal::Bool(true) => [Item::Word(b"true"), Item::Nothing],
+        Literal::Bool(false) => [Item::Word(b"false"), Item::Nothing],
+        Literal::Nil => [Item::Word(b"nil"), Item::Nothing],
+        Literal::Text(token) => [Item::Word(b"'"), Item::Token(token)],
+        Literal::EmptyText => [Item::Word(b"''"), Item::Nothing],
     }
 }
 
-fn selector(line: &mut Line, method: Selector) -> Result<(), AllocError> {
+fn selector(method: Selector) -> [Item; 2] {
     match method {
-        Selector::Named(token) | Selector::Operator(token) => {
-            line.token(token)?;
-            line.at(token.start)
-        }
-        Selector::OperatorOf(token) => {
-            line.word(b"of")?;
-            line.token(token)?;
-            line.at(token.start)
-        }
-        Selector::Plus(at) => {
-            line.word(b"+")?;
-            line.at(at)
-        }
-        Selector::ToString(at) => {
-            line.word(b"to_string")?;
-            line.at(at)
-        }
+        Selector::Named(token) => [Item::Token(token), Item::At(token.start)],
+        Selector::Operator(token) => [Item::Token(token), Item::At(token.start)],
+        Selector::OperatorOf(token) => [Item::Token(token), Item::At(token.start)],
+        Selector::Plus(at) => [Item::Word(b"+"), Item::At(at)],
+        Selector::ToString(at) => [Item::Word(b"to_string"), Item::At(at)],
     }
 }
 
-fn constructed(line: &mut Line, made: Constructed) -> Result<(), AllocError> {
+fn constructed(made: Constructed) -> [Item; 2] {
     match made {
-        Constructed::Named(token) => line.token(token),
-        Constructed::Qualified(owner, name) => {
-            line.token(owner)?;
-            line.word(b"/")?;
-            line.token(name)
-        }
-        Constructed::Some => line.word(b"built-in Some"),
-        Constructed::None => line.word(b"built-in None"),
-        Constructed::Ok => line.word(b"built-in Ok"),
-        Constructed::Error => line.word(b"built-in Error"),
-        Constructed::Tuple2 => line.word(b"Tuple2"),
-        Constructed::Tuple3 => line.word(b"Tuple3"),
+        Constructed::Named(token) => [Item::Token(token), Item::Nothing],
+        Constructed::Qualified(owner, name) => [Item::Token(owner), Item::Token(name)],
+        Constructed::Some => [Item::Word(b"built-in Some"), Item::Nothing],
+        Constructed::None => [Item::Word(b"built-in None"), Item::Nothing],
+        Constructed::Ok => [Item::Word(b"built-in Ok"), Item::Nothing],
+        Constructed::Error => [Item::Word(b"built-in Error"), Item::Nothing],
+        Constructed::Tuple2 => [Item::Word(b"Tuple2"), Item::Nothing],
+        Constructed::Tuple3 => [Item::Word(b"Tuple3"), Item::Nothing],
     }
 }
 
-fn choice(line: &mut Line, start: u32, choice: Choice) -> Result<(), AllocError> {
+fn choice(choice: Choice) -> (&'static [u8], Item) {
     match choice {
-        Choice::Match => line.head(b"match", start),
-        Choice::If => line.head(b"if", start),
-        Choice::While => line.head(b"while", start),
-        Choice::And(at) => {
-            line.head(b"and", start)?;
-            line.at(at)
-        }
-        Choice::Or(at) => {
-            line.head(b"or", start)?;
-            line.at(at)
-        }
-        Choice::Try => line.head(b"try", start),
+        Choice::Match => (b"match", Item::Nothing),
+        Choice::If => (b"if", Item::Nothing),
+        Choice::While => (b"while", Item::Nothing),
+        Choice::And(at) => (b"and", Item::At(at)),
+        Choice::Or(at) => (b"or", Item::At(at)),
+        Choice::Try => (b"try", Item::Nothing),
     }
+}
+
+fn borrow(kind: BorrowKind) -> &'static [u8] {
+    match kind {
+        BorrowKind::Ref => b"ref",
+        BorrowKind::Mut => b"mut",
+    }
+}
+
+fn type_word(form: TypeForm) -> &'static [u8] {
+    match form {
+        TypeForm::Object => b"type",
+        TypeForm::Enum => b"enum",
+    }
+}
+
+fn let_word(mutable: bool) -> &'static [u8] {
+    if mutable { b"let mut" } else { b"let" }
+}
+
+fn token(token: Token) -> [Item; 2] {
+    [Item::Token(token), Item::Nothing]
+}
+
+fn word(word: &'static [u8]) -> [Item; 2] {
+    [Item::Word(word), Item::Nothing]
 }
 
 /// How a value is listed, or another form where it is none.
-pub(crate) fn value(line: &mut Line, form: Form) -> Result<(), AllocError> {
+pub(crate) fn line(form: Form) -> Line {
     match form {
         Form::Lit {
             start,
             literal: written,
-        } => {
-            literal(line, written)?;
-            line.at(start)
-        }
-        Form::Var(token) => line.token(token),
-        Form::SelfValue { start } => {
-            line.word(b"self")?;
-            line.at(start)
-        }
-        Form::Field { start, name, base } => {
-            line.head(b"field", start)?;
-            line.token(name)?;
-            line.last(base)
-        }
+        } => leaf(literal(written), Item::At(start)),
+        Form::Var(name) => leaf(token(name), Item::Nothing),
+        Form::SelfValue { start } => leaf(word(b"self"), Item::At(start)),
+        Form::Field { start, name, base } => one(b"field", start, token(name), base),
         Form::Borrow {
             start,
-            kind: BorrowKind::Ref,
+            kind,
             operand,
-        } => {
-            line.head(b"ref", start)?;
-            line.last(operand)
-        }
-        Form::Borrow {
-            start,
-            kind: BorrowKind::Mut,
-            operand,
-        } => {
-            line.head(b"mut", start)?;
-            line.last(operand)
-        }
-        _ => made(line, form),
-    }
-}
-
-/// How what is made or called is listed.
-fn made(line: &mut Line, form: Form) -> Result<(), AllocError> {
-    match form {
+        } => one(borrow(kind), start, NONE, operand),
         Form::New {
             start,
             made,
             arguments,
-        } => {
-            line.head(b"new", start)?;
-            constructed(line, made)?;
-            line.last(arguments)
-        }
-        Form::Arr { start, items } => {
-            line.head(b"array", start)?;
-            line.last(items)
-        }
+        } => one(b"new", start, constructed(made), arguments),
+        Form::Arr { start, items } => one(b"array", start, NONE, items),
         Form::Call {
             start,
             method,
             receiver,
             arguments,
-        } => {
-            line.head(b"call", start)?;
-            selector(line, method)?;
-            line.tail(receiver, arguments)
-        }
-        Form::Fn { name, arguments } => {
-            line.head(b"fn", name.start)?;
-            line.token(name)?;
-            line.last(arguments)
-        }
+        } => two(b"call", start, selector(method), [receiver, arguments]),
+        Form::Fn { name, arguments } => one(b"fn", name.start, token(name), arguments),
         Form::Static {
             start,
             owner,
             name,
             arguments,
-        } => {
-            line.head(b"static", start)?;
-            line.token(owner)?;
-            line.token(name)?;
-            line.last(arguments)
-        }
-        Form::Named { name, value } => {
-            line.word(b"(")?;
-            line.token(name)?;
-            line.last(value)
-        }
-        _ => statement(line, form),
+        } => one(
+            b"static",
+            start,
+            [Item::Token(owner), Item::Token(name)],
+            arguments,
+        ),
+        Form::Named { name, value } => named(
+            name,
+            [Item::Form(value), Item::Nothing, Item::Nothing],
+        ),
+        Form::Wildcard { start } => leaf(word(b"_"), Item::At(start)),
+        Form::Word(name) => leaf(token(name), Item::Nothing),
+        _ => statement(form),
     }
 }
 
-/// How what stands as a statement is listed.
-fn statement(line: &mut Line, form: Form) -> Result<(), AllocError> {
+/// How what stands as a statement or leads elsewhere is listed.
+fn statement(form: Form) -> Line {
     match form {
-        Form::Statement { start, value } => {
-            line.head(b"statement", start)?;
-            line.last(value)
-        }
-        Form::Drop { start, value } => {
-            line.head(b"drop", start)?;
-            line.last(value)
-        }
+        Form::Statement { start, value } => one(b"statement", start, NONE, value),
+        Form::Drop { start, value } => one(b"drop", start, NONE, value),
         Form::Set {
             start,
             operator,
             place,
             value,
-        } => {
-            line.head(b"set", start)?;
-            line.at(operator)?;
-            line.tail(place, value)
-        }
+        } => two(
+            b"set",
+            start,
+            [Item::At(operator), Item::Nothing],
+            [place, value],
+        ),
         Form::Swap {
             start,
             operator,
             place,
             value,
-        } => {
-            line.head(b"swap", start)?;
-            line.at(operator)?;
-            line.tail(place, value)
-        }
+        } => two(
+            b"swap",
+            start,
+            [Item::At(operator), Item::Nothing],
+            [place, value],
+        ),
         Form::Let {
             start,
             mutable,
             name,
             annotation,
             value,
-        } => {
-            line.head(if mutable { b"let mut" } else { b"let" }, start)?;
-            line.token(name)?;
-            line.tail(annotation, value)
-        }
-        _ => flow(line, form),
-    }
-}
-
-/// How what leads elsewhere is listed.
-fn flow(line: &mut Line, form: Form) -> Result<(), AllocError> {
-    match form {
+        } => two(let_word(mutable), start, token(name), [annotation, value]),
         Form::Block {
             start,
             end,
             statements,
-        } => {
-            line.head(b"block", start)?;
-            line.at(end)?;
-            line.last(statements)
-        }
+        } => one(b"block", start, [Item::At(end), Item::Nothing], statements),
         Form::Match {
             start,
             choice: made_from,
             scrutinee,
             arms,
         } => {
-            choice(line, start, made_from)?;
-            line.tail(scrutinee, arms)
+            let (word, at) = choice(made_from);
+            two(word, start, [at, Item::Nothing], [scrutinee, arms])
         }
         Form::Arm {
             start,
             pattern,
             guard,
             value,
-        } => {
-            line.head(b"arm", start)?;
-            line.form(pattern)?;
-            line.tail(guard, value)
-        }
-        Form::Loop { start, body } => {
-            line.head(b"loop", start)?;
-            line.last(body)
-        }
-        Form::Return { start, value } => {
-            line.head(b"return", start)?;
-            line.last(value)
-        }
-        _ => jump(line, form),
+        } => three(b"arm", start, Item::Nothing, [pattern, guard, value]),
+        Form::Loop { start, body } => one(b"loop", start, NONE, body),
+        Form::Break { start } => leaf(word(b"break"), Item::At(start)),
+        Form::Next { start } => leaf(word(b"next"), Item::At(start)),
+        Form::Return { start, value } => one(b"return", start, NONE, value),
+        Form::Recover { start, operand } => one(b"recover", start, NONE, operand),
+        Form::Panic { start, arguments } => one(b"panic", start, NONE, arguments),
+        _ => declaration(form),
     }
 }
 
-/// How the rest of the values is listed.
-fn jump(line: &mut Line, form: Form) -> Result<(), AllocError> {
+/// How a part of a pattern, a type or a declaration is listed.
+fn declaration(form: Form) -> Line {
     match form {
-        Form::Break { start } => {
-            line.word(b"break")?;
-            line.at(start)
-        }
-        Form::Next { start } => {
-            line.word(b"next")?;
-            line.at(start)
-        }
-        Form::Recover { start, operand } => {
-            line.head(b"recover", start)?;
-            line.last(operand)
-        }
-        Form::Panic { start, arguments } => {
-            line.head(b"panic", start)?;
-            line.last(arguments)
-        }
-        _ => pattern(line, form),
-    }
-}
-
-/// How a pattern or a type is listed.
-fn pattern(line: &mut Line, form: Form) -> Result<(), AllocError> {
-    match form {
-        Form::Wildcard { start } => {
-            line.word(b"_")?;
-            line.at(start)
-        }
         Form::Either {
             start,
             before,
             next,
-        } => {
-            line.head(b"either", start)?;
-            line.tail(before, next)
-        }
-        Form::MutableName { start, name } => {
-            line.head(b"mut", start)?;
-            line.token(name)?;
-            line.word(b")")
-        }
-        Form::FieldPattern { name, pattern } => {
-            line.word(b"(")?;
-            line.token(name)?;
-            line.last(pattern)
-        }
-        Form::FieldPatterns { start, patterns } => {
-            line.head(b"fields", start)?;
-            line.last(patterns)
-        }
-        Form::NamedType { name, arguments } => {
-            line.word(b"(")?;
-            line.token(name)?;
-            line.last(arguments)
-        }
-        Form::PrefixedType { prefix, bare } => {
-            line.word(b"(")?;
-            line.token(prefix)?;
-            line.last(bare)
-        }
-        Form::TupleType { start, parts } => {
-            line.head(b"tuple", start)?;
-            line.last(parts)
-        }
-        _ => declaration(line, form),
-    }
-}
-
-/// How a declaration is listed.
-fn declaration(line: &mut Line, form: Form) -> Result<(), AllocError> {
-    match form {
-        Form::Word(token) => line.token(token),
+        } => two(b"either", start, NONE, [before, next]),
+        Form::MutableName { start, name } => none(b"mut", start, token(name)),
+        Form::FieldPattern { name, pattern } => named(
+            name,
+            [Item::Form(pattern), Item::Nothing, Item::Nothing],
+        ),
+        Form::FieldPatterns { start, patterns } => one(b"fields", start, NONE, patterns),
+        Form::NamedType { name, arguments } => named(
+            name,
+            [Item::Form(arguments), Item::Nothing, Item::Nothing],
+        ),
+        Form::PrefixedType { prefix, bare } => named(
+            prefix,
+            [Item::Form(bare), Item::Nothing, Item::Nothing],
+        ),
+        Form::TupleType { start, parts } => one(b"tuple", start, NONE, parts),
         Form::Module {
             imports,
             declarations,
-        } => {
-            line.word(b"(")?;
-            line.tail(imports, declarations)
-        }
-        Form::Import { start, path, names } => {
-            line.head(b"import", start)?;
-            line.tail(path, names)
-        }
-        Form::TypeParameter { name, bounds } => {
-            line.word(b"(")?;
-            line.token(name)?;
-            line.last(bounds)
-        }
-        Form::Parameter { name, annotation } => {
-            line.word(b"(")?;
-            line.token(name)?;
-            line.last(annotation)
-        }
+        } => two(b"module", 0, NONE, [imports, declarations]),
+        Form::Import { start, path, names } => two(b"import", start, NONE, [path, names]),
+        Form::TypeParameter { name, bounds } => named(
+            name,
+            [Item::Form(bounds), Item::Nothing, Item::Nothing],
+        ),
+        Form::Parameter { name, annotation } => named(
+            name,
+            [Item::Form(annotation), Item::Nothing, Item::Nothing],
+        ),
         Form::Signature {
             name,
             type_parameters,
             parameters,
             result,
         } => {
-            line.word(b"(")?;
-            line.token(name)?;
-            line.form(type_parameters)?;
-            line.tail(parameters, result)
+            named(
+                name,
+                [
+                    Item::Form(type_parameters),
+                    Item::Form(parameters),
+                    Item::Form(result),
+                ],
+            )
         }
-        _ => member(line, form),
+        _ => member(form),
     }
 }
 
-/// How a member of a declaration is listed, or a list.
-fn member(line: &mut Line, form: Form) -> Result<(), AllocError> {
+/// How a declaration is listed.
+fn member(form: Form) -> Line {
     match form {
-        Form::Constructor { start, name, types } => {
-            line.head(b"case", start)?;
-            line.token(name)?;
-            line.last(types)
-        }
+        Form::Constructor { start, name, types } => one(b"case", start, token(name), types),
         Form::FieldDeclaration {
             start,
             words,
             name,
             annotation,
-        } => {
-            line.head(b"let", start)?;
-            line.form(words)?;
-            line.token(name)?;
-            line.last(annotation)
-        }
+        } => two(b"let", start, token(name), [words, annotation]),
         Form::Method {
             start,
             words,
             signature,
             body,
-        } => {
-            line.head(b"fn", start)?;
-            line.form(words)?;
-            line.tail(signature, body)
-        }
+        } => three(b"fn", start, Item::Nothing, [words, signature, body]),
         Form::TraitMethod {
             start,
             words,
             name,
             parameters,
             result,
-        } => {
-            line.head(b"fn", start)?;
-            line.form(words)?;
-            line.token(name)?;
-            line.tail(parameters, result)
-        }
-        _ => declared(line, form),
-    }
-}
-
-/// How what holds members is listed.
-fn declared(line: &mut Line, form: Form) -> Result<(), AllocError> {
-    match form {
+        } => { three(b"fn", start, Item::Token(name), [words, parameters, result]) }
         Form::Trait {
             start,
             words,
             name,
             methods,
-        } => {
-            line.head(b"trait", start)?;
-            line.form(words)?;
-            line.token(name)?;
-            line.last(methods)
-        }
+        } => two(b"trait", start, token(name), [words, methods]),
         Form::Implementation {
             start,
             name,
             of_trait,
             methods,
         } => {
-            line.head(b"impl", start)?;
-            line.token(name)?;
-            if let Some(named) = of_trait {
-                line.word(b"for")?;
-                line.token(named)?;
-            }
-            line.last(methods)
+            let named = match of_trait {
+                Some(token) => Item::Token(token),
+                None => Item::Nothing,
+            };
+            one(b"impl", start, [Item::Token(name), named], methods)
         }
         Form::TypeDeclaration {
             start,
-            form: _,
+            form,
             words,
             name,
             type_parameters,
             members,
         } => {
-            line.head(b"type", start)?;
-            line.form(words)?;
-            line.token(name)?;
-            line.tail(type_parameters, members)
+            three(
+                type_word(form),
+                start,
+                Item::Token(name),
+                [words, type_parameters, members],
+            )
         }
-        _ => line.word(b"?"),
+        _ => leaf(word(b"?"), Item::Nothing),
     }
 }

@@ -1,6 +1,6 @@
 //! The list of a core form as a line of text.
-use crate::item::{Item, Line};
-use crate::lines::value;
+use crate::item::{Item, Line, leaf};
+use crate::lines::line;
 use ink_base::{JudgeFault, Limits, Text};
 use ink_core::{CoreModule, Form, FormId, desugar};
 use ink_grammar::Token;
@@ -28,42 +28,34 @@ fn put(out: &mut Vec<u8>, word: &[u8]) -> Result<(), AllocError> {
 }
 
 /// How a node is listed.
-fn line_of(alloc: Global, nodes: &[Form], number: FormId) -> Result<Line, AllocError> {
-    let mut line = Line::new(alloc);
+fn line_of(nodes: &[Form], number: FormId) -> Line {
     match nodes.get(number as usize) {
-        None => line.word(b"-")?,
-        Some(Form::Empty) => line.word(b"[]")?,
-        Some(Form::More { before: _, item: _ }) => {
-            line.word(b"[")?;
-            line.inner(number)?;
-            line.word(b"]")?;
-        }
-        Some(form) => value(&mut line, *form)?,
+        None => leaf([Item::Word(b"-"), Item::Nothing], Item::Nothing),
+        Some(Form::Empty) => leaf([Item::Word(b"[]"), Item::Nothing], Item::Nothing),
+        Some(Form::More { before: _, item: _ }) => leaf(
+            [Item::Word(b"["), Item::Inner(number)],
+            Item::Word(b"]"),
+        ),
+        Some(form) => line(*form),
     }
-    Ok(line)
 }
 
 /// How the items of a list are listed.
-fn inner_of(alloc: Global, nodes: &[Form], number: FormId) -> Result<Line, AllocError> {
-    let mut line = Line::new(alloc);
+fn inner_of(nodes: &[Form], number: FormId) -> Line {
     match nodes.get(number as usize) {
-        Some(Form::Empty) => {}
-        Some(Form::More { before, item }) => {
-            line.inner(*before)?;
-            line.form(*item)?;
-        }
-        _ => line.form(number)?,
+        Some(Form::Empty) => leaf([Item::Nothing, Item::Nothing], Item::Nothing),
+        Some(Form::More { before, item }) => leaf(
+            [Item::Inner(*before), Item::Form(*item)],
+            Item::Nothing,
+        ),
+        _ => leaf([Item::Form(number), Item::Nothing], Item::Nothing),
     }
-    Ok(line)
 }
 
 /// Puts what a line holds on the work, the first on top.
-fn lay(work: &mut Vec<Item>, mut line: Line) -> Result<(), AllocError> {
-    for _ in 0..100 {
-        let Some(item) = line.pop() else {
-            return Ok(());
-        };
-        work.push(item)?;
+fn lay(work: &mut Vec<Item>, line: Line) -> Result<(), AllocError> {
+    for item in line.iter().rev() {
+        work.push(*item)?;
     }
     Ok(())
 }
@@ -76,8 +68,9 @@ fn list(alloc: Global, source: &[u8], nodes: &[Form], number: FormId) -> Result<
     for _ in 0..5000 {
         match work.pop() {
             None => break,
-            Some(Item::Form(number)) => lay(&mut work, line_of(alloc, nodes, number)?)?,
-            Some(Item::Inner(number)) => lay(&mut work, inner_of(alloc, nodes, number)?)?,
+            Some(Item::Nothing) => {}
+            Some(Item::Form(number)) => lay(&mut work, line_of(nodes, number))?,
+            Some(Item::Inner(number)) => lay(&mut work, inner_of(nodes, number))?,
             Some(Item::Word(word)) => put(&mut out, word)?,
             Some(Item::Token(token)) => put(&mut out, spelled(source, token))?,
             Some(Item::At(byte)) => {

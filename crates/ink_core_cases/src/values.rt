@@ -32,11 +32,11 @@ fn writes(rt: HostRuntime) -> Result<(), Fail> {
         &[
             (
                 "fn f { x += 1 }",
-                "(block@5@14 [(drop@7 (set@7@9 x (call@9 of +=@9 x [1@12])))])",
+                "(block@5@14 [(drop@7 (set@7@9 x (call@9 +=@9 x [1@12])))])",
             ),
             (
                 "fn f { a.b -= 1 }",
-                "(block@5@16 [(drop@7 (set@7@11 (field@7 b a) (call@11 of -=@11 (field@7 b a) [1@14])))])",
+                "(block@5@16 [(drop@7 (set@7@11 (field@7 b a) (call@11 -=@11 (field@7 b a) [1@14])))])",
             ),
             (
                 "fn f { @a = 1 }",
@@ -108,10 +108,10 @@ fn what_is_made(rt: HostRuntime) -> Result<(), Fail> {
                 "fn f { A(b: 1) }",
                 "(block@5@15 [(drop@7 (new@7 A [(b 1@12)]))])",
             ),
-            ("fn f { A.B }", "(block@5@11 [(drop@7 (new@7 A / B -))])"),
+            ("fn f { A.B }", "(block@5@11 [(drop@7 (new@7 A B -))])"),
             (
                 "fn f { A.B(1) }",
-                "(block@5@14 [(drop@7 (new@7 A / B [1@11]))])",
+                "(block@5@14 [(drop@7 (new@7 A B [1@11]))])",
             ),
         ],
     )
