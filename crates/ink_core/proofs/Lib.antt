@@ -1,0 +1,4 @@
+pub mod PileLemmas
+pub mod KnownLemmas
+pub mod SeenLemmas
+pub mod TextLemmas

@@ -1,0 +1,11 @@
+pub mod Core
+pub mod Built
+pub mod Sights
+pub mod Seen
+pub mod Texts
+pub mod Forms
+pub mod Desugared
+pub mod Known
+pub mod Parts
+pub mod Pile
+pub mod Views

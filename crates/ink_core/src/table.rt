@@ -1,0 +1,528 @@
+//! The table of core forms, by the forms of the grammar.
+ghost use Rattle.std.specs.Prelude.{◌≡◌, ◌∷◌, ◌++◌, [], OnOk};
+ghost use Rattle.ink_core.specs.Views as view;
+ghost use Rattle.ink_core.specs.Known.{at};
+ghost use Rattle.ink_core.specs.Core as core;
+ghost use Rattle.ink_core.specs.Forms as spec;
+ghost use Rattle.ink_core.specs.Sights as sights;
+
+use crate::bench::Bench;
+use crate::choices::{endless, if_alone, if_else, throw, try_value, while_loop};
+use crate::form::{Choice, Constructed, Form, TypeForm};
+use crate::part::{Label, Part};
+use crate::texts::text;
+use crate::values::{
+    assigned, borrow_kind, called, close_new, constructed_with, field, linked, linked_call,
+    list_of_three, list_of_two, operated, returned,
+};
+use ink_grammar::{FiveChildren, FourChildren, Shape, ThreeChildren, Token, TwoChildren};
+use std::alloc::AllocError;
+
+/// A value with two children.
+#[tactic(auto, unfolding(crate::specs::Forms::value_of_two))]
+fn value_of_two(
+    bench: &mut Bench,
+    source: &[u8],
+    form: TwoChildren,
+    start: u32,
+    a: u32,
+    b: u32,
+) -> Result<(), AllocError>
+    ensures taken { OnOk result (view.taken bench.new ≡ spec.value_of_two source.now form start (at (view.known bench.old) a) (at (view.known bench.old) b) ∷ view.taken bench.old) }
+    ensures known { OnOk result (view.known bench.new ≡ view.known bench.old) }
+{
+    let word = bench.token(a);
+    match form {
+        TwoChildren::Return => returned(bench, start, b),
+        TwoChildren::Throw => throw(bench, start, b),
+        TwoChildren::Borrow => {
+            let operand = bench.child(b)?;
+            bench.push(Form::Borrow {
+                start,
+                kind: borrow_kind(word.shape),
+                operand,
+            })
+        }
+        TwoChildren::Try => try_value(bench, start, word, b),
+        TwoChildren::Recover => {
+            let operand = bench.child(b)?;
+            bench.push(Form::Recover { start, operand })
+        }
+        TwoChildren::Call => called(bench, source, word, b),
+        TwoChildren::Construct => constructed_with(bench, start, a, b),
+        TwoChildren::Named => {
+            let value = bench.child(b)?;
+            bench.push(Form::Named { name: word, value })
+        }
+        TwoChildren::Text => text(bench, start, b),
+        TwoChildren::Array => {
+            let items = bench.child(b)?;
+            bench.push(Form::Arr { start, items })
+        }
+        TwoChildren::Loop => endless(bench, start, b),
+        TwoChildren::Member => linked(bench, start, a, bench.token(b)),
+        TwoChildren::TupleItem => field(bench, start, a, bench.token(b)),
+        _ => pattern_of_two(bench, form, start, a, b),
+    }
+}
+
+/// A pattern with two children.
+#[tactic(auto, unfolding(crate::specs::Forms::pattern_of_two))]
+fn pattern_of_two(
+    bench: &mut Bench,
+    form: TwoChildren,
+    start: u32,
+    a: u32,
+    b: u32,
+) -> Result<(), AllocError>
+    ensures taken { OnOk result (view.taken bench.new ≡ spec.pattern_of_two form start (at (view.known bench.old) a) (at (view.known bench.old) b) ∷ view.taken bench.old) }
+    ensures known { OnOk result (view.known bench.new ≡ view.known bench.old) }
+{
+    match form {
+        TwoChildren::Either => {
+            let (before, next) = bench.two_children(a, b)?;
+            bench.push(Form::Either {
+                start,
+                before,
+                next,
+            })
+        }
+        TwoChildren::MutableName => bench.push(Form::MutableName {
+            start,
+            name: bench.token(b),
+        }),
+        TwoChildren::ConstructorPattern => constructed_with(bench, start, a, b),
+        TwoChildren::FieldPattern => {
+            let pattern = bench.child(b)?;
+            bench.push(Form::FieldPattern {
+                name: bench.token(a),
+                pattern,
+            })
+        }
+        TwoChildren::FieldPatterns => {
+            let patterns = bench.child(b)?;
+            bench.push(Form::FieldPatterns { start, patterns })
+        }
+        _ => declaration_of_two(bench, form, a, b),
+    }
+}
+
+/// A module, or a part of a declaration or a type, with two children.
+#[tactic(auto, unfolding(crate::specs::Forms::declaration_of_two))]
+fn declaration_of_two(
+    bench: &mut Bench,
+    form: TwoChildren,
+    a: u32,
+    b: u32,
+) -> Result<(), AllocError>
+    ensures taken { OnOk result (view.taken bench.new ≡ spec.declaration_of_two form (at (view.known bench.old) a) (at (view.known bench.old) b) ∷ view.taken bench.old) }
+    ensures known { OnOk result (view.known bench.new ≡ view.known bench.old) }
+{
+    let name = bench.token(a);
+    match form {
+        TwoChildren::Module => {
+            let (imports, declarations) = bench.two_children(a, b)?;
+            bench.push(Form::Module {
+                imports,
+                declarations,
+            })
+        }
+        TwoChildren::TypeParameter => {
+            let bounds = bench.child(b)?;
+            bench.push(Form::TypeParameter { name, bounds })
+        }
+        TwoChildren::Parameter => {
+            let annotation = bench.child(b)?;
+            bench.push(Form::Parameter { name, annotation })
+        }
+        TwoChildren::NamedType => {
+            let arguments = bench.child(b)?;
+            bench.push(Form::NamedType { name, arguments })
+        }
+        TwoChildren::PrefixedType => {
+            let bare = bench.child(b)?;
+            bench.push(Form::PrefixedType { prefix: name, bare })
+        }
+        _ => bench.push_nothing(),
+    }
+}
+
+/// Keeps a node of two children.
+#[tactic(auto, unfolding(crate::specs::Forms::two))]
+pub(crate) fn two(
+    bench: &mut Bench,
+    source: &[u8],
+    form: TwoChildren,
+    start: u32,
+    a: u32,
+    b: u32,
+) -> Result<(), AllocError>
+    ensures { OnOk result (view.known bench.new ≡ view.known bench.old ++ spec.two source.now form start (at (view.known bench.old) a) (at (view.known bench.old) b) ∷ []) }
+{
+    match form {
+        TwoChildren::More => bench.keep_more(a, b),
+        TwoChildren::Qualified => {
+            let name = bench.token(b);
+            let made = Constructed::Qualified(bench.token(a), name);
+            bench.keep_part(Part::Constant(start, name, made))
+        }
+        _ => {
+            value_of_two(bench, source, form, start, a, b)?;
+            bench.keep()
+        }
+    }
+}
+
+/// A tuple of two.
+fn pair(bench: &mut Bench, start: u32, a: u32, b: u32) -> Result<(), AllocError>
+    ensures taken { OnOk result (view.taken bench.new ≡ spec.pair start (at (view.known bench.old) a).core (at (view.known bench.old) b).core ∷ view.taken bench.old) }
+    ensures known { OnOk result (view.known bench.new ≡ view.known bench.old) }
+{
+    list_of_two(bench, a, b)?;
+    close_new(bench, start, Constructed::Tuple2)
+}
+
+/// A node of three children that is no block.
+#[tactic(auto, unfolding(crate::specs::Forms::core_of_three))]
+fn core_of_three(
+    bench: &mut Bench,
+    form: ThreeChildren,
+    start: u32,
+    a: u32,
+    b: u32,
+    c: u32,
+) -> Result<(), AllocError>
+    ensures taken { OnOk result (view.taken bench.new ≡ spec.core_of_three form start (at (view.known bench.old) a) (at (view.known bench.old) b) (at (view.known bench.old) c) ∷ view.taken bench.old) }
+    ensures known { OnOk result (view.known bench.new ≡ view.known bench.old) }
+{
+    let word = bench.token(b);
+    match form {
+        ThreeChildren::Import => {
+            let (path, names) = bench.two_children(b, c)?;
+            bench.push(Form::Import { start, path, names })
+        }
+        ThreeChildren::Constructor => {
+            let types = bench.child(c)?;
+            bench.push(Form::Constructor {
+                start,
+                name: word,
+                types,
+            })
+        }
+        ThreeChildren::Assign => assigned(bench, start, word, a, c),
+        ThreeChildren::Binary => operated(bench, start, word, a, c),
+        ThreeChildren::While => while_loop(bench, start, b, c),
+        ThreeChildren::Match => {
+            let (scrutinee, arms) = bench.two_children(b, c)?;
+            bench.push(Form::Match {
+                start,
+                choice: Choice::Match,
+                scrutinee,
+                arms,
+            })
+        }
+        ThreeChildren::MemberCall => linked_call(bench, start, a, word, c),
+        ThreeChildren::Pair => pair(bench, start, b, c),
+        ThreeChildren::PairPattern => pair(bench, start, b, c),
+        ThreeChildren::PairType => {
+            list_of_two(bench, b, c)?;
+            let parts = bench.pop();
+            bench.push(Form::TupleType { start, parts })
+        }
+        ThreeChildren::Block => bench.push_nothing(),
+    }
+}
+
+/// Keeps a node of three children.
+#[tactic(auto, unfolding(crate::specs::Forms::three))]
+pub(crate) fn three(
+    bench: &mut Bench,
+    form: ThreeChildren,
+    start: u32,
+    a: u32,
+    b: u32,
+    c: u32,
+) -> Result<(), AllocError>
+    ensures { OnOk result (view.known bench.new ≡ view.known bench.old ++ spec.three form start (at (view.known bench.old) a) (at (view.known bench.old) b) (at (view.known bench.old) c) ∷ []) }
+{
+    match form {
+        ThreeChildren::Block => {
+            let end = bench.token(c).start;
+            bench.keep_block(start, b, end)
+        }
+        _ => {
+            core_of_three(bench, form, start, a, b, c)?;
+            bench.keep()
+        }
+    }
+}
+
+/// A tuple of three.
+fn triple(bench: &mut Bench, start: u32, a: u32, b: u32, c: u32) -> Result<(), AllocError>
+    ensures taken { OnOk result (view.taken bench.new ≡ spec.triple start (at (view.known bench.old) a).core (at (view.known bench.old) b).core (at (view.known bench.old) c).core ∷ view.taken bench.old) }
+    ensures known { OnOk result (view.known bench.new ≡ view.known bench.old) }
+{
+    list_of_three(bench, a, b, c)?;
+    close_new(bench, start, Constructed::Tuple3)
+}
+
+/// An `if`, without or with what stands behind its `else`.
+fn conditional(bench: &mut Bench, start: u32, c: u32, x: u32, y: u32) -> Result<(), AllocError>
+    ensures taken { OnOk result (view.taken bench.new ≡ spec.conditional start (at (view.known bench.old) c).core (at (view.known bench.old) x).core (at (view.known bench.old) y).label (at (view.known bench.old) y).core ∷ view.taken bench.old) }
+    ensures known { OnOk result (view.known bench.new ≡ view.known bench.old) }
+{
+    match bench.label(y) {
+        Label::Absent => if_alone(bench, start, c, x),
+        _ => if_else(bench, start, c, x, y),
+    }
+}
+
+/// The body of a method.
+fn method_body(bench: &mut Bench, signature: u32, block: u32) -> Result<(), AllocError>
+    ensures taken { OnOk result (view.taken bench.new ≡ spec.method_body (at (view.known bench.old) signature).label (at (view.known bench.old) block) ∷ view.taken bench.old) }
+    ensures known { OnOk result (view.known bench.new ≡ view.known bench.old) }
+{
+    match bench.label(signature) {
+        Label::Absent => bench.take_given_up(block),
+        _ => bench.take(block),
+    }
+}
+
+/// A method, by the words behind its own, its signature and its block.
+fn method(
+    bench: &mut Bench,
+    start: u32,
+    words: u32,
+    signature: u32,
+    block: u32,
+) -> Result<(), AllocError>
+    ensures taken { OnOk result (view.taken bench.new ≡ core.Method start (at (view.known bench.old) words).core (at (view.known bench.old) signature).core (spec.method_body (at (view.known bench.old) signature).label (at (view.known bench.old) block)) ∷ view.taken bench.old) }
+    ensures known { OnOk result (view.known bench.new ≡ view.known bench.old) }
+{
+    bench.take(words)?;
+    bench.take(signature)?;
+    method_body(bench, signature, block)?;
+    let body = bench.pop();
+    let signature = bench.pop();
+    let words = bench.pop();
+    bench.push(Form::Method {
+        start,
+        words,
+        signature,
+        body,
+    })
+}
+
+/// The token that a node is, where one is written.
+fn written(bench: &Bench, number: u32) -> Option<Token>
+    ensures { result ≡ sights.written (at (view.known bench.now) number).label }
+{
+    match bench.label(number) {
+        Label::Absent => None,
+        _ => Some(bench.token(number)),
+    }
+}
+
+/// A node of four children that is no signature.
+#[tactic(auto, unfolding(crate::specs::Forms::core_of_four))]
+fn core_of_four(
+    bench: &mut Bench,
+    form: FourChildren,
+    start: u32,
+    a: u32,
+    b: u32,
+    c: u32,
+    d: u32,
+) -> Result<(), AllocError>
+    ensures taken { OnOk result (view.taken bench.new ≡ spec.core_of_four form start (at (view.known bench.old) a) (at (view.known bench.old) b) (at (view.known bench.old) c) (at (view.known bench.old) d) ∷ view.taken bench.old) }
+    ensures known { OnOk result (view.known bench.new ≡ view.known bench.old) }
+{
+    let name = bench.token(c);
+    match form {
+        FourChildren::FieldDeclaration => {
+            let (words, annotation) = bench.two_children(b, d)?;
+            bench.push(Form::FieldDeclaration {
+                start,
+                words,
+                name,
+                annotation,
+            })
+        }
+        FourChildren::Method => method(bench, start, b, c, d),
+        FourChildren::Trait => {
+            let (words, methods) = bench.two_children(b, d)?;
+            bench.push(Form::Trait {
+                start,
+                words,
+                name,
+                methods,
+            })
+        }
+        FourChildren::Implementation => {
+            let methods = bench.child(d)?;
+            let of_trait = written(bench, c);
+            bench.push(Form::Implementation {
+                start,
+                name: bench.token(b),
+                of_trait,
+                methods,
+            })
+        }
+        FourChildren::If => conditional(bench, start, b, c, d),
+        FourChildren::Arm => {
+            let (pattern, guard, value) = bench.three_children(b, c, d)?;
+            bench.push(Form::Arm {
+                start,
+                pattern,
+                guard,
+                value,
+            })
+        }
+        FourChildren::Triple => triple(bench, start, b, c, d),
+        FourChildren::TriplePattern => triple(bench, start, b, c, d),
+        FourChildren::TripleType => {
+            list_of_three(bench, b, c, d)?;
+            let parts = bench.pop();
+            bench.push(Form::TupleType { start, parts })
+        }
+        FourChildren::Signature => signature(bench, a, b, c, d),
+    }
+}
+
+/// A signature.
+fn signature(bench: &mut Bench, a: u32, b: u32, c: u32, d: u32) -> Result<(), AllocError>
+    ensures taken { OnOk result (view.taken bench.new ≡ core.Signature (sights.token_of (at (view.known bench.old) a).label) (at (view.known bench.old) b).core (at (view.known bench.old) c).core (at (view.known bench.old) d).core ∷ view.taken bench.old) }
+    ensures known { OnOk result (view.known bench.new ≡ view.known bench.old) }
+{
+    let name = bench.token(a);
+    let (type_parameters, parameters, result) = bench.three_children(b, c, d)?;
+    bench.push(Form::Signature {
+        name,
+        type_parameters,
+        parameters,
+        result,
+    })
+}
+
+/// Keeps a node of four children.
+#[tactic(auto, unfolding(crate::specs::Forms::four))]
+pub(crate) fn four(
+    bench: &mut Bench,
+    form: FourChildren,
+    start: u32,
+    a: u32,
+    b: u32,
+    c: u32,
+    d: u32,
+) -> Result<(), AllocError>
+    ensures { OnOk result (view.known bench.new ≡ view.known bench.old ++ spec.four form start (at (view.known bench.old) a) (at (view.known bench.old) b) (at (view.known bench.old) c) (at (view.known bench.old) d) ∷ []) }
+{
+    match form {
+        FourChildren::Signature => {
+            let result = bench.label(d);
+            signature(bench, a, b, c, d)?;
+            bench.keep_signature(result)
+        }
+        _ => {
+            core_of_four(bench, form, start, a, b, c, d)?;
+            bench.keep()
+        }
+    }
+}
+
+fn is_named(shape: Shape) -> bool
+    ensures { result ≡ spec.is_named shape }
+{
+    match shape {
+        Shape::Underscore => false,
+        _ => true,
+    }
+}
+
+/// Whether a variable is mutable: `_` is none.
+fn is_mutable(label: Label, name: Token) -> bool
+    ensures { result ≡ spec.is_mutable label name }
+{
+    match label {
+        Label::Absent => false,
+        _ => is_named(name.shape),
+    }
+}
+
+/// A node of five children, by the last four.
+#[tactic(auto, unfolding(crate::specs::Forms::core_of_five))]
+fn core_of_five(
+    bench: &mut Bench,
+    form: FiveChildren,
+    start: u32,
+    b: u32,
+    c: u32,
+    d: u32,
+    e: u32,
+) -> Result<(), AllocError>
+    ensures taken { OnOk result (view.taken bench.new ≡ spec.core_of_five form start (at (view.known bench.old) b) (at (view.known bench.old) c) (at (view.known bench.old) d) (at (view.known bench.old) e) ∷ view.taken bench.old) }
+    ensures known { OnOk result (view.known bench.new ≡ view.known bench.old) }
+{
+    let name = bench.token(c);
+    match form {
+        FiveChildren::TypeDeclaration => {
+            let (words, type_parameters, members) = bench.three_children(b, d, e)?;
+            bench.push(Form::TypeDeclaration {
+                start,
+                form: TypeForm::Object,
+                words,
+                name,
+                type_parameters,
+                members,
+            })
+        }
+        FiveChildren::EnumDeclaration => {
+            let (words, type_parameters, members) = bench.three_children(b, d, e)?;
+            bench.push(Form::TypeDeclaration {
+                start,
+                form: TypeForm::Enum,
+                words,
+                name,
+                type_parameters,
+                members,
+            })
+        }
+        FiveChildren::Let => {
+            let mutable = is_mutable(bench.label(b), name);
+            let (annotation, value) = bench.two_children(d, e)?;
+            bench.push(Form::Let {
+                start,
+                mutable,
+                name,
+                annotation,
+                value,
+            })
+        }
+        FiveChildren::TraitMethod => {
+            let (words, parameters, result) = bench.three_children(b, d, e)?;
+            bench.push(Form::TraitMethod {
+                start,
+                words,
+                name,
+                parameters,
+                result,
+            })
+        }
+    }
+}
+
+/// Keeps a node of five children.
+pub(crate) fn five(
+    bench: &mut Bench,
+    form: FiveChildren,
+    start: u32,
+    b: u32,
+    c: u32,
+    d: u32,
+    e: u32,
+) -> Result<(), AllocError>
+    ensures { OnOk result (view.known bench.new ≡ view.known bench.old ++ spec.five form start (at (view.known bench.old) b) (at (view.known bench.old) c) (at (view.known bench.old) d) (at (view.known bench.old) e) ∷ []) }
+{
+    core_of_five(bench, form, start, b, c, d, e)?;
+    bench.keep()
+}
