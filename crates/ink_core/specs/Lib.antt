@@ -9,3 +9,4 @@ pub mod Known
 pub mod Parts
 pub mod Pile
 pub mod Views
+pub mod Unescaped

@@ -15,8 +15,10 @@ mod part;
 mod spelled;
 mod table;
 mod texts;
+mod unescaped;
 mod values;
 mod whole;
 
 pub use form::{Choice, Constructed, CoreModule, Form, FormId, Literal, Selector, TypeForm};
+pub use unescaped::unescaped_part;
 pub use whole::desugar;

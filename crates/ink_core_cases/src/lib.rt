@@ -14,6 +14,8 @@ mod item;
 mod lines;
 mod listing;
 #[cfg(test)]
+mod parts;
+#[cfg(test)]
 mod values;
 
 pub use listing::{listed, listed_body};
