@@ -323,6 +323,28 @@ fn written(bench: &Bench, number: u32) -> Option<Token>
     }
 }
 
+/// The methods of a type, and the trait that they implement, where one is written.
+fn implementation(
+    bench: &mut Bench,
+    start: u32,
+    name: u32,
+    of_trait: u32,
+    methods: u32,
+) -> Result<(), AllocError>
+    ensures taken { OnOk result (view.taken bench.new ≡ core.Implementation start (sights.token_of (at (view.known bench.old) name).label) (sights.written (at (view.known bench.old) of_trait).label) (at (view.known bench.old) methods).core ∷ view.taken bench.old) }
+    ensures known { OnOk result (view.known bench.new ≡ view.known bench.old) }
+{
+    let name = bench.token(name);
+    let of_trait = written(bench, of_trait);
+    let methods = bench.child(methods)?;
+    bench.push(Form::Implementation {
+        start,
+        name,
+        of_trait,
+        methods,
+    })
+}
+
 /// A node of four children that is no signature.
 #[tactic(auto, unfolding(crate::specs::Forms::core_of_four))]
 fn core_of_four(
@@ -358,16 +380,7 @@ fn core_of_four(
                 methods,
             })
         }
-        FourChildren::Implementation => {
-            let methods = bench.child(d)?;
-            let of_trait = written(bench, c);
-            bench.push(Form::Implementation {
-                start,
-                name: bench.token(b),
-                of_trait,
-                methods,
-            })
-        }
+        FourChildren::Implementation => implementation(bench, start, b, c, d),
         FourChildren::If => conditional(bench, start, b, c, d),
         FourChildren::Arm => {
             let (pattern, guard, value) = bench.three_children(b, c, d)?;
@@ -449,6 +462,30 @@ fn is_mutable(label: Label, name: Token) -> bool
     }
 }
 
+/// A declaration of a type.
+fn type_declaration(
+    bench: &mut Bench,
+    start: u32,
+    form: TypeForm,
+    words: u32,
+    name: Token,
+    type_parameters: u32,
+    members: u32,
+) -> Result<(), AllocError>
+    ensures taken { OnOk result (view.taken bench.new ≡ core.TypeDeclaration start form (at (view.known bench.old) words).core name (at (view.known bench.old) type_parameters).core (at (view.known bench.old) members).core ∷ view.taken bench.old) }
+    ensures known { OnOk result (view.known bench.new ≡ view.known bench.old) }
+{
+    let (words, type_parameters, members) = bench.three_children(words, type_parameters, members)?;
+    bench.push(Form::TypeDeclaration {
+        start,
+        form,
+        words,
+        name,
+        type_parameters,
+        members,
+    })
+}
+
 /// A node of five children, by the last four.
 #[tactic(auto, unfolding(crate::specs::Forms::core_of_five))]
 fn core_of_five(
@@ -465,28 +502,24 @@ fn core_of_five(
 {
     let name = bench.token(c);
     match form {
-        FiveChildren::TypeDeclaration => {
-            let (words, type_parameters, members) = bench.three_children(b, d, e)?;
-            bench.push(Form::TypeDeclaration {
-                start,
-                form: TypeForm::Object,
-                words,
-                name,
-                type_parameters,
-                members,
-            })
-        }
-        FiveChildren::EnumDeclaration => {
-            let (words, type_parameters, members) = bench.three_children(b, d, e)?;
-            bench.push(Form::TypeDeclaration {
-                start,
-                form: TypeForm::Enum,
-                words,
-                name,
-                type_parameters,
-                members,
-            })
-        }
+        FiveChildren::TypeDeclaration => type_declaration(
+            bench,
+            start,
+            TypeForm::Object,
+            b,
+            name,
+            d,
+            e,
+        ),
+        FiveChildren::EnumDeclaration => type_declaration(
+            bench,
+            start,
+            TypeForm::Enum,
+            b,
+            name,
+            d,
+            e,
+        ),
         FiveChildren::Let => {
             let mutable = is_mutable(bench.label(b), name);
             let (annotation, value) = bench.two_children(d, e)?;
