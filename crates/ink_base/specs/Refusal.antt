@@ -1,13 +1,12 @@
 use Rattle.std.specs.Prelude.{ℕ, Bool, ◌&&◌, ◌||◌, ◌==◌, nat_lt, List, [], ◌++◌, codes, Option, None, Some}
 use Rattle.std.specs.Fmt.{decimal}
 use Rattle.ink_base.specs.declared.refusal.Rule.{Rule}
-use Rattle.ink_base.specs.declared.refusal.Rule.TheVariants.{NotBuilt, NotUtf8, BadToken, IntTooWide, UnendedText, Unexpected, TooDeep, SourceTooLong, UnknownName, DuplicateName, UnknownImport, NoMain, TypeArity, UniArgument, MissingMethod, WrongSignature, DuplicateImpl, BoundUnmet, AsyncNotSendable, WrongType, ArgumentCount, UnknownMember, NotMutable, NeedsAnnotation, JumpOutside, MissingArm, BadPattern, MovedUse, MoveOutOfBorrow, HiddenInRecover, BorrowOfUni, CrossingArgument, CrossingResult, RecoverResult, JumpOutOfRecover}
+use Rattle.ink_base.specs.declared.refusal.Rule.TheVariants.{NotUtf8, BadToken, IntTooWide, UnendedText, Unexpected, TooDeep, SourceTooLong, UnknownName, DuplicateName, UnknownImport, NoMain, TypeArity, UniArgument, MissingMethod, WrongSignature, DuplicateImpl, BoundUnmet, AsyncNotSendable, WrongType, ArgumentCount, UnknownMember, NotMutable, NeedsAnnotation, JumpOutside, MissingArm, BadPattern, MovedUse, MoveOutOfBorrow, HiddenInRecover, BorrowOfUni, CrossingArgument, CrossingResult, RecoverResult, JumpOutOfRecover}
 use Rattle.ink_base.specs.declared.refusal.Place.{Place}
 use Rattle.ink_base.specs.declared.refusal.Refusal.{Refusal}
 
 -- the code of a rule, as a number
 abbrev pub rule_code : Rule → ℕ
-rule_code NotBuilt = 0
 rule_code NotUtf8 = 1
 rule_code BadToken = 2
 rule_code IntTooWide = 3
@@ -45,7 +44,6 @@ rule_code JumpOutOfRecover = 55
 
 -- the code and the name of a rule
 abbrev pub rule_text : Rule → List ℕ
-rule_text NotBuilt = codes "E00 NotBuilt"
 rule_text NotUtf8 = codes "E01 NotUtf8"
 rule_text BadToken = codes "E02 BadToken"
 rule_text IntTooWide = codes "E03 IntTooWide"

@@ -30,8 +30,6 @@ impl Place {
 /// Each has a code of two digits, which stands in its text behind an `E`.
 #[derive(Clone, Copy, Debug, PartialEq, Eq)]
 pub enum Rule {
-    /// The module is more than what is built so far. It goes once the grammar is whole.
-    NotBuilt,
     /// The source isn't UTF-8.
     NotUtf8,
     /// A byte begins no token, or a backslash no escape.
@@ -108,7 +106,6 @@ impl Rule {
         ensures { result ≡ rule_code self }
     {
         match self {
-            Rule::NotBuilt => 0,
             Rule::NotUtf8 => 1,
             Rule::BadToken => 2,
             Rule::IntTooWide => 3,
@@ -152,7 +149,6 @@ impl fmt::Display for Rule {
 
     fn fmt<W: fmt::Write>(&self, f: &mut fmt::Formatter<W>) -> fmt::Result {
         f.write_str(match self {
-            Rule::NotBuilt => "E00 NotBuilt",
             Rule::NotUtf8 => "E01 NotUtf8",
             Rule::BadToken => "E02 BadToken",
             Rule::IntTooWide => "E03 IntTooWide",
@@ -200,7 +196,7 @@ pub struct Refusal {
 }
 
 impl Refusal {
-    /// How the refusal is told: `E00 NotBuilt at line 1, column 1`, and a detail behind a colon and a blank.
+    /// How the refusal is told: `E05 Unexpected at line 6, column 1`, and a detail behind a colon and a blank.
     pub fn text(&self, alloc: Global) -> Result<Text, AllocError>
         ensures { IfOk result (λ text. text ≡ refusal_text self.now) }
     {

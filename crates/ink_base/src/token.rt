@@ -37,8 +37,8 @@ pub struct Token {
     pub kind: TokenKind,
     pub start: u32,
     pub end: u32,
-    /// Whether a line feed stands between it and the token before. It is false for the first token, and for the
-    /// tokens that make up a text.
+    /// Whether a line feed stands between it and the token before. It is false for the first token, and in a text for
+    /// its parts, for each `${` and for the quote that closes it.
     pub new_line: bool,
 }
 
