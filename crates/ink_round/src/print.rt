@@ -16,6 +16,7 @@ pub fn print_source(alloc: Global, source: &[u8], limits: &Limits) -> Result<Tex
 {
     let reading = read_module(alloc, source, limits)?;
     let text = print_module(alloc, source, &reading.module)?;
+    // A law, for what is promised of the text: it does nothing.
     print_reads_back();
     Ok(text)
 }

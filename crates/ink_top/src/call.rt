@@ -271,6 +271,7 @@ pub fn inko_main<F: Files, K: Sink + Send, E: Sink, G: Gate + Sync>(
     ensures told { TellsCause words.now result.cause
         (state_of E.contents E.faults err.old) (state_of E.contents E.faults err.new) }
 {
+    // A law, for the clause on the same module: it does nothing.
     print_reads_back();
     let mut journal = Journal::new(alloc);
     let found = perform(alloc, words, files, &mut journal, &mut out);
