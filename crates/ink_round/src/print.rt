@@ -9,8 +9,8 @@ use std::alloc::Global;
 
 /// Reads a source and gives the canonical print of the module that it is.
 ///
-/// The print is read as the same module. Refused is what `read_module` refuses. `OutOfMemory` says nothing of the
-/// source.
+/// The print has the tokens and the tree of the same module, but it may be longer than the limit of a source. Refused is
+/// what `read_module` refuses. `OutOfMemory` says nothing of the source.
 pub fn print_source(alloc: Global, source: &[u8], limits: &Limits) -> Result<Text, JudgeFault>
     ensures { Prints limits.now source.now result }
 {
