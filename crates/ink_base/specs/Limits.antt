@@ -2,22 +2,22 @@ use Rattle.std.specs.Prelude.{ℕ, ◌+◌, ◌-◌, ◌^◌, ◌<◌, ◌≤◌
 use Rattle.ink_base.specs.declared.limits.Limit.{Limit}
 use Rattle.ink_base.specs.declared.limits.Limit.TheVariants.{Source, Height, Frames, Objects, Serial, Array, Text, Processes, Mailbox, Futures, Events, Local, Slice, Workers}
 
--- the place of a limit among the fourteen numbers
-abbrev pub place_of : Limit → ℕ
-place_of Source = 0
-place_of Height = 1
-place_of Frames = 2
-place_of Objects = 3
-place_of Serial = 4
-place_of Array = 5
-place_of Text = 6
-place_of Processes = 7
-place_of Mailbox = 8
-place_of Futures = 9
-place_of Events = 10
-place_of Local = 11
-place_of Slice = 12
-place_of Workers = 13
+-- the index of a limit among the fourteen numbers
+abbrev pub index_of : Limit → ℕ
+index_of Source = 0
+index_of Height = 1
+index_of Frames = 2
+index_of Objects = 3
+index_of Serial = 4
+index_of Array = 5
+index_of Text = 6
+index_of Processes = 7
+index_of Mailbox = 8
+index_of Futures = 9
+index_of Events = 10
+index_of Local = 11
+index_of Slice = 12
+index_of Workers = 13
 
 -- the greatest number that each limit may have, in their order; the least is 1
 abbrev pub greatest_numbers : List ℕ
@@ -29,7 +29,7 @@ default_numbers = 1048576 ∷ 200 ∷ 4096 ∷ 1048576 ∷ 2 ^ 40 ∷ 1048576 �
 
 -- a limit's number among the numbers of all
 abbrev pub limit_of : Limit → List ℕ → ℕ
-limit_of limit numbers = slice_index numbers (place_of limit)
+limit_of limit numbers = slice_index numbers (index_of limit)
 
 abbrev pub greatest_of : Limit → ℕ
 greatest_of limit = limit_of limit greatest_numbers
@@ -41,9 +41,9 @@ default_of limit = limit_of limit default_numbers
 abbrev pub IsInRange : Limit → ℕ → Type 0
 IsInRange limit n = (1 ≤ n) × (n ≤ greatest_of limit)
 
--- the number in a place, counted from 0, is in the range of the limit there
+-- the number at an index, counted from 0, is in the range of the limit there
 abbrev pub IsInRangeAt : List ℕ → ℕ → Type 0
-IsInRangeAt numbers place = (1 ≤ slice_index numbers place) × (slice_index numbers place ≤ slice_index greatest_numbers place)
+IsInRangeAt numbers index = (1 ≤ slice_index numbers index) × (slice_index numbers index ≤ slice_index greatest_numbers index)
 
 -- each number is in its range
 abbrev pub AreInRange : List ℕ → Type 0

@@ -5,7 +5,7 @@ use Rattle.ink_base.specs.declared.limits.Limit.TheVariants as limit
 use Rattle.ink_base.specs.declared.row.Kind.{Kind}
 use Rattle.ink_base.specs.declared.row.Kind.TheVariants as kind
 use Rattle.ink_base.specs.declared.row.Mode.{Mode}
-use Rattle.ink_base.specs.declared.row.Mode.TheVariants.{R, M, V, S}
+use Rattle.ink_base.specs.declared.row.Mode.TheVariants.{Read, Mutate, Move, Static}
 use Rattle.ink_base.specs.declared.row.Slot.{Slot}
 use Rattle.ink_base.specs.declared.row.Slot.TheVariants.{Int, Bool as Truth, Str, Nil, Stdout, Item, Pair, OptItem, OptRef, OptMut}
 
@@ -46,52 +46,52 @@ fresh_option borrows receiver mode name operands result =
 
 unfoldable pub rows : List Row
 rows =
-    plain kind.Int R (codes "+") (Int ∷ []) Int (Overflow ∷ [])
-    ∷ plain kind.Int R (codes "-") (Int ∷ []) Int (Overflow ∷ [])
-    ∷ plain kind.Int R (codes "*") (Int ∷ []) Int (Overflow ∷ [])
-    ∷ plain kind.Int R (codes "/") (Int ∷ []) Int (DivisionByZero ∷ Overflow ∷ [])
-    ∷ plain kind.Int R (codes "%") (Int ∷ []) Int (DivisionByZero ∷ [])
-    ∷ plain kind.Int R (codes "==") (Int ∷ []) Truth []
-    ∷ plain kind.Int R (codes "!=") (Int ∷ []) Truth []
-    ∷ plain kind.Int R (codes "<") (Int ∷ []) Truth []
-    ∷ plain kind.Int R (codes "<=") (Int ∷ []) Truth []
-    ∷ plain kind.Int R (codes ">") (Int ∷ []) Truth []
-    ∷ plain kind.Int R (codes ">=") (Int ∷ []) Truth []
-    ∷ plain kind.Int R (codes "&") (Int ∷ []) Int []
-    ∷ plain kind.Int R (codes "|") (Int ∷ []) Int []
-    ∷ plain kind.Int R (codes "^") (Int ∷ []) Int []
-    ∷ plain kind.Int R (codes "<<") (Int ∷ []) Int (ShiftOutOfRange ∷ [])
-    ∷ plain kind.Int R (codes ">>") (Int ∷ []) Int (ShiftOutOfRange ∷ [])
-    ∷ plain kind.Int R (codes "to_string") [] Str []
-    ∷ plain kind.Bool R (codes "==") (Truth ∷ []) Truth []
-    ∷ plain kind.Bool R (codes "!=") (Truth ∷ []) Truth []
-    ∷ plain kind.Bool R (codes "false?") [] Truth []
-    ∷ plain kind.Bool R (codes "to_string") [] Str []
-    ∷ plain kind.Str R (codes "+") (Str ∷ []) Str (LimitReached limit.Text ∷ [])
-    ∷ plain kind.Str R (codes "==") (Str ∷ []) Truth []
-    ∷ plain kind.Str R (codes "!=") (Str ∷ []) Truth []
-    ∷ plain kind.Str R (codes "size") [] Int []
-    ∷ plain kind.Str R (codes "empty?") [] Truth []
-    ∷ plain kind.Str R (codes "byte") (Int ∷ []) Int (BadIndex ∷ [])
-    ∷ plain kind.Str R (codes "starts_with?") (Str ∷ []) Truth []
-    ∷ plain kind.Str R (codes "to_string") [] Str []
-    ∷ plain kind.Array R (codes "size") [] Int []
-    ∷ plain kind.Array R (codes "empty?") [] Truth []
-    ∷ plain kind.Array M (codes "push") (Item ∷ []) Nil (LimitReached limit.Array ∷ OwnershipCycle ∷ [])
-    ∷ fresh_option false kind.Array M (codes "pop") [] OptItem
-    ∷ fresh_option true kind.Array R (codes "get") (Int ∷ []) OptRef
-    ∷ fresh_option true kind.Array M (codes "get_mut") (Int ∷ []) OptMut
-    ∷ plain kind.Array M (codes "set") (Int ∷ Item ∷ []) Nil (BadIndex ∷ OwnershipCycle ∷ [])
-    ∷ plain kind.Array M (codes "swap") (Int ∷ Item ∷ []) Item (BadIndex ∷ OwnershipCycle ∷ [])
-    ∷ plain kind.Array M (codes "clear") [] Nil []
-    ∷ plain kind.Option R (codes "some?") [] Truth []
-    ∷ plain kind.Option R (codes "none?") [] Truth []
-    ∷ plain kind.Option V (codes "get") [] Item (CannotDrop ∷ NoValue ∷ [])
-    ∷ fresh_option true kind.Option R (codes "as_ref") [] OptRef
-    ∷ fresh_option true kind.Option M (codes "as_mut") [] OptMut
-    ∷ plain kind.Future V (codes "get") [] Item (BrokenFuture ∷ [])
-    ∷ plain kind.Promise V (codes "set") (Item ∷ []) Nil []
-    ∷ plain kind.Future S (codes "new") [] Pair (LimitReached limit.Futures ∷ LimitReached limit.Objects ∷ LimitReached limit.Serial ∷ [])
-    ∷ plain kind.Stdout R (codes "print") (Str ∷ []) Nil []
-    ∷ plain kind.Stdout S (codes "new") [] Stdout (LimitReached limit.Objects ∷ LimitReached limit.Serial ∷ [])
+    plain kind.Int Read (codes "+") (Int ∷ []) Int (Overflow ∷ [])
+    ∷ plain kind.Int Read (codes "-") (Int ∷ []) Int (Overflow ∷ [])
+    ∷ plain kind.Int Read (codes "*") (Int ∷ []) Int (Overflow ∷ [])
+    ∷ plain kind.Int Read (codes "/") (Int ∷ []) Int (DivisionByZero ∷ Overflow ∷ [])
+    ∷ plain kind.Int Read (codes "%") (Int ∷ []) Int (DivisionByZero ∷ [])
+    ∷ plain kind.Int Read (codes "==") (Int ∷ []) Truth []
+    ∷ plain kind.Int Read (codes "!=") (Int ∷ []) Truth []
+    ∷ plain kind.Int Read (codes "<") (Int ∷ []) Truth []
+    ∷ plain kind.Int Read (codes "<=") (Int ∷ []) Truth []
+    ∷ plain kind.Int Read (codes ">") (Int ∷ []) Truth []
+    ∷ plain kind.Int Read (codes ">=") (Int ∷ []) Truth []
+    ∷ plain kind.Int Read (codes "&") (Int ∷ []) Int []
+    ∷ plain kind.Int Read (codes "|") (Int ∷ []) Int []
+    ∷ plain kind.Int Read (codes "^") (Int ∷ []) Int []
+    ∷ plain kind.Int Read (codes "<<") (Int ∷ []) Int (ShiftOutOfRange ∷ [])
+    ∷ plain kind.Int Read (codes ">>") (Int ∷ []) Int (ShiftOutOfRange ∷ [])
+    ∷ plain kind.Int Read (codes "to_string") [] Str []
+    ∷ plain kind.Bool Read (codes "==") (Truth ∷ []) Truth []
+    ∷ plain kind.Bool Read (codes "!=") (Truth ∷ []) Truth []
+    ∷ plain kind.Bool Read (codes "false?") [] Truth []
+    ∷ plain kind.Bool Read (codes "to_string") [] Str []
+    ∷ plain kind.Str Read (codes "+") (Str ∷ []) Str (LimitReached limit.Text ∷ [])
+    ∷ plain kind.Str Read (codes "==") (Str ∷ []) Truth []
+    ∷ plain kind.Str Read (codes "!=") (Str ∷ []) Truth []
+    ∷ plain kind.Str Read (codes "size") [] Int []
+    ∷ plain kind.Str Read (codes "empty?") [] Truth []
+    ∷ plain kind.Str Read (codes "byte") (Int ∷ []) Int (BadIndex ∷ [])
+    ∷ plain kind.Str Read (codes "starts_with?") (Str ∷ []) Truth []
+    ∷ plain kind.Str Read (codes "to_string") [] Str []
+    ∷ plain kind.Array Read (codes "size") [] Int []
+    ∷ plain kind.Array Read (codes "empty?") [] Truth []
+    ∷ plain kind.Array Mutate (codes "push") (Item ∷ []) Nil (LimitReached limit.Array ∷ OwnershipCycle ∷ [])
+    ∷ fresh_option false kind.Array Mutate (codes "pop") [] OptItem
+    ∷ fresh_option true kind.Array Read (codes "get") (Int ∷ []) OptRef
+    ∷ fresh_option true kind.Array Mutate (codes "get_mut") (Int ∷ []) OptMut
+    ∷ plain kind.Array Mutate (codes "set") (Int ∷ Item ∷ []) Nil (BadIndex ∷ OwnershipCycle ∷ [])
+    ∷ plain kind.Array Mutate (codes "swap") (Int ∷ Item ∷ []) Item (BadIndex ∷ OwnershipCycle ∷ [])
+    ∷ plain kind.Array Mutate (codes "clear") [] Nil []
+    ∷ plain kind.Option Read (codes "some?") [] Truth []
+    ∷ plain kind.Option Read (codes "none?") [] Truth []
+    ∷ plain kind.Option Move (codes "get") [] Item (CannotDrop ∷ NoValue ∷ [])
+    ∷ fresh_option true kind.Option Read (codes "as_ref") [] OptRef
+    ∷ fresh_option true kind.Option Mutate (codes "as_mut") [] OptMut
+    ∷ plain kind.Future Move (codes "get") [] Item (BrokenFuture ∷ [])
+    ∷ plain kind.Promise Move (codes "set") (Item ∷ []) Nil []
+    ∷ plain kind.Future Static (codes "new") [] Pair (LimitReached limit.Futures ∷ LimitReached limit.Objects ∷ LimitReached limit.Serial ∷ [])
+    ∷ plain kind.Stdout Read (codes "print") (Str ∷ []) Nil []
+    ∷ plain kind.Stdout Static (codes "new") [] Stdout (LimitReached limit.Objects ∷ LimitReached limit.Serial ∷ [])
     ∷ []

@@ -3,7 +3,7 @@
 //! What a run does at a limit is not known here, but for the texts of the panics.
 ghost use Rattle.std.specs.Prelude.{◌≡◌, IfErr, IfOk, OnOk};
 ghost use Rattle.std.specs.Option.{option_copied};
-ghost use Rattle.ink_base.specs.Limits.{place_of, greatest_of, default_of, option_word, panic_text, IsInRange, AreInRange, IsFirstOut, limit_of, default_numbers};
+ghost use Rattle.ink_base.specs.Limits.{index_of, greatest_of, default_of, option_word, panic_text, IsInRange, AreInRange, IsFirstOut, limit_of, default_numbers};
 
 use std::marker::Model;
 
@@ -77,9 +77,9 @@ const DEFAULTS: [u64; 14] = [
 ];
 
 impl Limit {
-    /// Its place among the limits, counted from 0.
-    pub fn place(self) -> usize
-        ensures { result ≡ place_of self }
+    /// Its index among the limits, counted from 0.
+    pub fn index(self) -> usize
+        ensures { result ≡ index_of self }
     {
         match self {
             Limit::Source => 0,
@@ -103,14 +103,14 @@ impl Limit {
     pub fn greatest(self) -> u64
         ensures { result ≡ greatest_of self }
     {
-        GREATEST[self.place()]
+        GREATEST[self.index()]
     }
 
     /// The number that it has where none is given.
     pub fn default_number(self) -> u64
         ensures { result ≡ default_of self }
     {
-        DEFAULTS[self.place()]
+        DEFAULTS[self.index()]
     }
 
     /// The option by which a user gives its number.
@@ -211,7 +211,7 @@ impl Limits {
         ensures number { result ≡ limit_of limit self.now }
         ensures range { IsInRange limit result }
     {
-        self.numbers[limit.place()]
+        self.numbers[limit.index()]
     }
 }
 
@@ -241,9 +241,9 @@ mod tests {
 
     #[test]
     fn ranges(rt: HostRuntime) {
-        let mut place = 0;
+        let mut index = 0;
         for (limit, option, default, greatest) in table() {
-            assert_eq!(rt; limit.place(), place);
+            assert_eq!(rt; limit.index(), index);
             assert_eq!(rt; limit.option(), option);
             assert_eq!(rt; Limits::defaults().get(limit), default, "{option}");
             for (number, is_allowed) in [
@@ -253,8 +253,8 @@ mod tests {
                 (greatest.wrapping_add(1), false),
             ] {
                 let mut numbers = [1; 14];
-                assert!(rt; place < 14);
-                numbers[place] = number;
+                assert!(rt; index < 14);
+                numbers[index] = number;
                 match Limits::new(numbers) {
                     Ok(limits) => {
                         assert!(rt; is_allowed, "{option} {number}");
@@ -262,11 +262,11 @@ mod tests {
                     }
                     Err(BadLimit(k)) => {
                         assert!(rt; !is_allowed, "{option} {number}");
-                        assert_eq!(rt; k as usize, place.wrapping_add(1));
+                        assert_eq!(rt; k as usize, index.wrapping_add(1));
                     }
                 }
             }
-            place = place.wrapping_add(1);
+            index = index.wrapping_add(1);
         }
     }
 

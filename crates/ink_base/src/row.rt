@@ -20,13 +20,13 @@ pub enum Kind {
 #[derive(Clone, Copy, Debug, PartialEq, Eq)]
 pub enum Mode {
     /// `fn`: it reads the receiver.
-    R,
+    Read,
     /// `fn mut`: it changes the receiver.
-    M,
+    Mutate,
     /// `fn move`: it takes the receiver.
-    V,
+    Move,
     /// Static: it has none.
-    S,
+    Static,
 }
 
 /// What goes into a row, or comes out of it.

@@ -85,7 +85,7 @@ sum_with_a_truth : int_rows 0 (v.Int (pos 2) ∷ v.Bool true ∷ []) ≡ Err wro
 unfolding int_rows add_row after
 sum_with_a_truth = refl
 
-sum_of_one : int_rows 0 (v.Int (pos 2) ∷ []) ≡ Err wrong.Place
+sum_of_one : int_rows 0 (v.Int (pos 2) ∷ []) ≡ Err wrong.Absent
 unfolding int_rows add_row after
 sum_of_one = refl
 

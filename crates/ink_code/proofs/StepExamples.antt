@@ -84,7 +84,7 @@ spent = refl
 abbrev ending : Method
 ending = record { name = codes "Main.main"; registers = 2; body = i.Jump 1 ∷ []; lines = []; counted = lit< tt }
 
-past_the_end : slice_of 9 (code_of ending) default_numbers first ≡ Err wrong.Place
+past_the_end : slice_of 9 (code_of ending) default_numbers first ≡ Err wrong.Absent
 unfolding slice_of code_step free_step top_step instr_step jump_step at_place given unless
 past_the_end = refl
 

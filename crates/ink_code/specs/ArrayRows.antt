@@ -59,7 +59,7 @@ get_row limits values p =
     unless_full limits q (gives_lent (item_at found.fields (place_in index (length found.fields))) q))))
 
 abbrev pub found_item : Option Value → ℕ → (ℕ → Value → RowOutcome) → RowOutcome
-found_item None place further = Err wrong.Place
+found_item None place further = Err wrong.Absent
 found_item (Some value) place further = further place value
 
 -- what is done with the item in a place: a panic where the index names none
@@ -99,4 +99,4 @@ array_rows limits row values p =
     else (if row == 35 then set_row values p
     else (if row == 36 then swap_row values p
     else (if row == 37 then clear_row values p
-    else Err wrong.Place))))))))
+    else Err wrong.Absent))))))))

@@ -38,4 +38,4 @@ bool_rows row values =
     else (if row == 18 then other_row values
     else (if row == 19 then false_row values
     else (if row == 20 then bool_to_string_row values
-    else Err wrong.Place)))
+    else Err wrong.Absent)))

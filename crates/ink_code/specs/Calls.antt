@@ -17,7 +17,7 @@ use Rattle.ink_code.specs.Process.{Process, held, with_register, at_place, taken
 -- a method is called with the values of registers: at the limit of frames nothing moves
 unfoldable pub invoke_step : Code → List ℕ → ℕ → ℕ → List ℕ → Process → Outcome
 invoke_step code limits to method arguments p =
-    has to p (given wrong.Place (slice_get code.methods method) (λ called.
+    has to p (given wrong.Absent (slice_get code.methods method) (λ called.
     unless_text (reached limit.Frames (length p.frames) limits) p
     (after (taken_out arguments p.frames) (λ parts. stays (record p { frames = entered method called.registers parts.0 parts.1 })))))
 
@@ -34,8 +34,8 @@ first_register (number ∷ others) = Some number
 -- the method is called that the type of the first argument's object has in a slot
 unfoldable pub invoke_bound_step : Code → List ℕ → ℕ → ℕ → List ℕ → Process → Outcome
 invoke_bound_step code limits to slot arguments p =
-    given wrong.Place (first_register arguments) (λ first. reads first p (λ value. after (object_of value) (λ id.
-    after (object_at p.objects id) (λ found. given wrong.Place (method_in code.impls found.kind slot) (λ method.
+    given wrong.Absent (first_register arguments) (λ first. reads first p (λ value. after (object_of value) (λ id.
+    after (object_at p.objects id) (λ found. given wrong.Absent (method_in code.impls found.kind slot) (λ method.
     invoke_step code limits to method arguments p)))))
 
 -- the register to which the value of a call goes
@@ -48,11 +48,11 @@ target_of other = None
 abbrev pub returns_to : Code → Value → List Frame → Process → Outcome
 returns_to code value [] p = stays (record p { frames = [] })
 returns_to code value (frame ∷ outer) p =
-    given wrong.Place (target_of (fetch code frame.method frame.place)) (λ to.
+    given wrong.Absent (target_of (fetch code frame.method frame.place)) (λ to.
     stays (record p { frames = at_place (frame.place + 1) (with_register to value (frame ∷ outer)) }))
 
 abbrev pub ends : Code → ℕ → List Frame → Process → Outcome
-ends code from [] p = Err wrong.Place
+ends code from [] p = Err wrong.Absent
 ends code from (frame ∷ outer) p = after (held (slice_get frame.registers from)) (λ value. returns_to code value outer p)
 
 -- the innermost frame ends with the value of a register

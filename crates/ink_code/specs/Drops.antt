@@ -26,12 +26,12 @@ drop_if next from value p = waits from value p
 
 -- a value is dropped where there is one
 unfoldable pub drop_maybe_step : ℕ → ℕ → Process → Outcome
-drop_maybe_step next from p = given wrong.Place (register p.frames from) (λ value. drop_if next from value p)
+drop_maybe_step next from p = given wrong.Absent (register p.frames from) (λ value. drop_if next from value p)
 
 -- the drop in work is done, with these objects, and these drops are left: the last one lets the frame go on
 abbrev pub dropped : Code → Objects → List Value → Process → Outcome
 dropped code objects left p =
-    given wrong.Place (current code p.frames) (λ instr. settles (next_place p.frames) left (record p { objects = objects; pending = left }))
+    given wrong.Absent (current code p.frames) (λ instr. settles (next_place p.frames) left (record p { objects = objects; pending = left }))
 
 -- the drop that is next: of an owner its object goes, and the object's fields are dropped next; a borrow ends; of a
 -- promise its future is to be broken; any other value goes

@@ -122,4 +122,4 @@ int_rows row values =
     else (if row == 14 then shift_up_row values
     else (if row == 15 then shift_down_row values
     else (if row == 16 then int_to_string_row values
-    else Err wrong.Place))))))))))))))))
+    else Err wrong.Absent))))))))))))))))

@@ -81,7 +81,7 @@ settles next (value ∷ others) p = stays p
 
 -- the register has to be there
 abbrev pub has : ℕ → Process → Outcome → Outcome
-has number p further = given wrong.Place (register p.frames number) (λ had. further)
+has number p further = given wrong.Absent (register p.frames number) (λ had. further)
 
 -- the value in a register
 abbrev pub reads : ℕ → Process → (Value → Outcome) → Outcome

@@ -76,7 +76,7 @@ tag_step next to object p =
 -- an object that is given up: a panic where a borrow of it is counted
 abbrev pub gives_up : Code → Object → Process → Outcome → Outcome
 gives_up code found p further =
-    unless (nat_lt 0 found.count) (given wrong.Place (slice_get code.kinds found.kind) (λ name. panics (drop_text name found.count) p)) further
+    unless (nat_lt 0 found.count) (given wrong.Absent (slice_get code.kinds found.kind) (λ name. panics (drop_text name found.count) p)) further
 
 -- an object is given up, and its fields go to registers
 unfoldable pub take_apart_step : Code → ℕ → List ℕ → ℕ → Process → Outcome

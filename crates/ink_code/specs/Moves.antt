@@ -20,7 +20,7 @@ constant_of value = Err wrong.Kind
 -- a register gets a constant
 unfoldable pub const_step : Code → ℕ → ℕ → ℕ → Process → Outcome
 const_step code next to constant p =
-    has to p (given wrong.Place (slice_get code.constants constant) (λ value. after (constant_of value) (λ plain. went next (put to plain p))))
+    has to p (given wrong.Absent (slice_get code.constants constant) (λ value. after (constant_of value) (λ plain. went next (put to plain p))))
 
 -- a register gets the value of another, which is empty then
 unfoldable pub move_step : ℕ → ℕ → ℕ → Process → Outcome

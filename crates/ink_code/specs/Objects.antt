@@ -36,7 +36,7 @@ unfoldable pub object_at : Objects → ObjectId → Result Object Wrong
 object_at objects id = there (get objects id)
 
 abbrev pub placed : Option Value → Result Value Wrong
-placed None = Err wrong.Place
+placed None = Err wrong.Absent
 placed (Some value) = Ok value
 
 abbrev pub field_in : Option Object → ℕ → Result Value Wrong

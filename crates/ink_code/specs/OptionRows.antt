@@ -29,12 +29,12 @@ unfoldable pub value_row : Code → List Value → Process → RowOutcome
 value_row code values p =
     after (single values) (λ value. after (owned_by value) (λ id. after (object_at p.objects id) (λ found.
     needs (found.kind == option_kind) wrong.Kind
-    (unless (nat_lt 0 found.count) (given wrong.Place (slice_get code.kinds found.kind) (λ name. fails (drop_text name found.count) p))
+    (unless (nat_lt 0 found.count) (given wrong.Absent (slice_get code.kinds found.kind) (λ name. fails (drop_text name found.count) p))
     (unless (not (has_value found)) (fails no_value_text p)
-    (given wrong.Place (slice_get found.fields 0) (λ item. gives item (with_objects (remove p.objects id) p))))))))
+    (given wrong.Absent (slice_get found.fields 0) (λ item. gives item (with_objects (remove p.objects id) p))))))))
 
 abbrev pub lends_value : Bool → Option Value → Process → RowOutcome
-lends_value held item p = if held then given wrong.Place item (λ value. gives_lent (Some value) p) else gives_lent None p
+lends_value held item p = if held then given wrong.Absent item (λ value. gives_lent (Some value) p) else gives_lent None p
 
 -- a borrow of the value is given in a new Option
 unfoldable pub as_ref_row : List ℕ → List Value → Process → RowOutcome
@@ -55,4 +55,4 @@ option_rows code limits row values p =
     else (if row == 41 then as_ref_row limits values p
     else (if row == 42 then as_ref_row limits values p
     else (if row == 47 then stdout_row limits values p
-    else Err wrong.Place)))))
+    else Err wrong.Absent)))))

@@ -30,7 +30,7 @@ state_id p = record { process = p.number; serial = 1 }
 
 -- a value that is there
 abbrev pub held : Option Value → Result Value Wrong
-held None = Err wrong.Place
+held None = Err wrong.Absent
 held (Some Empty) = Err wrong.Empty
 held (Some value) = Ok value
 
@@ -71,18 +71,18 @@ in_frame frame outer (Ok parts) = Ok (parts.0, record frame { registers = parts.
 
 -- the values of registers of the innermost frame, and the frames without them
 unfoldable pub taken_out : List ℕ → List Frame → Result (List Value × List Frame) Wrong
-taken_out numbers [] = Err wrong.Place
+taken_out numbers [] = Err wrong.Absent
 taken_out numbers (frame ∷ outer) = in_frame frame outer (moved numbers frame.registers)
 
 abbrev pub where_there : {A : Type 0} → Option Value → Result A Wrong → Result A Wrong
-where_there None rest = Err wrong.Place
+where_there None rest = Err wrong.Absent
 where_there (Some had) rest = rest
 
 -- the registers after values went to so many of them, one after another, each of which has to be there
 abbrev pub given_out : List ℕ → List Value → List Value → Result (List Value) Wrong
 given_out [] [] registers = Ok registers
-given_out [] (value ∷ values) registers = Err wrong.Place
-given_out (number ∷ numbers) [] registers = Err wrong.Place
+given_out [] (value ∷ values) registers = Err wrong.Absent
+given_out (number ∷ numbers) [] registers = Err wrong.Absent
 given_out (number ∷ numbers) (value ∷ values) registers =
     where_there (slice_get registers number) (given_out numbers values (slice_set registers number value))
 
@@ -92,7 +92,7 @@ with_registers frame outer (Ok registers) = Ok (record frame { registers = regis
 
 -- the frames after values went to registers of the innermost one
 unfoldable pub put_out : List ℕ → List Value → List Frame → Result (List Frame) Wrong
-put_out numbers values [] = Err wrong.Place
+put_out numbers values [] = Err wrong.Absent
 put_out numbers values (frame ∷ outer) = with_registers frame outer (given_out numbers values frame.registers)
 
 -- values, and behind them empty places up to so many

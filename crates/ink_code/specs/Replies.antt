@@ -35,8 +35,8 @@ left_after (value ∷ others) p = record p { pending = value ∷ others; ran = 0
 
 -- after an action that gives nothing back: a promise that was dropped is done with, and any other instruction too
 abbrev pub after_done : Code → List Value → Process → Result Process Wrong
-after_done code [] p = given wrong.Place (current code p.frames) (λ instr. Ok (resumed p))
-after_done code (value ∷ left) p = given wrong.Place (current code p.frames) (λ instr. Ok (left_after left p))
+after_done code [] p = given wrong.Absent (current code p.frames) (λ instr. Ok (resumed p))
+after_done code (value ∷ left) p = given wrong.Absent (current code p.frames) (λ instr. Ok (left_after left p))
 
 -- the registers with which the method of a message begins: a borrow of the state, and then the arguments
 abbrev pub arguments_of : Process → Parcel → List Value
@@ -45,7 +45,7 @@ arguments_of p parcel = v.Bor (state_id p) ∷ parcel.values
 -- after a message was taken: its method begins as the first frame, and the borrow of the state is counted
 abbrev pub after_taken : Code → ℕ → Parcel → Process → Result Process Wrong
 after_taken code method parcel p =
-    given wrong.Place (slice_get code.methods method) (λ called.
+    given wrong.Absent (slice_get code.methods method) (λ called.
     after (after_copy (v.Bor (state_id p)) p.objects) (λ objects.
     Ok (record p { frames = entered method called.registers (arguments_of p parcel) []; objects = joined objects parcel; ran = 0 })))
 
@@ -61,9 +61,9 @@ after_pair number (Some (i.FutureNew future promise)) p =
 after_pair number other p = Err wrong.Kind
 
 abbrev pub with_value : ℕ → ℕ → List Value → Process → Result Process Wrong
-with_value to future [] p = Err wrong.Place
+with_value to future [] p = Err wrong.Absent
 with_value to future (value ∷ []) p = Ok (resumed (put to value (put future v.Empty p)))
-with_value to future (value ∷ other ∷ others) p = Err wrong.Place
+with_value to future (value ∷ other ∷ others) p = Err wrong.Absent
 
 -- after a get: the future is used up, and a register gets the value
 abbrev pub after_got : Parcel → Option Instr → Process → Result Process Wrong

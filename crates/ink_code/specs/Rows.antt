@@ -48,18 +48,18 @@ unless_fails (Some text) p further = fails text p
 -- the operands of a row, of which there have to be so many
 abbrev pub no_operand : {B : Type 0} → List Value → Result B Wrong → Result B Wrong
 no_operand [] further = further
-no_operand (value ∷ others) further = Err wrong.Place
+no_operand (value ∷ others) further = Err wrong.Absent
 
 abbrev pub single : List Value → Result Value Wrong
-single [] = Err wrong.Place
+single [] = Err wrong.Absent
 single (value ∷ []) = Ok value
-single (value ∷ other ∷ others) = Err wrong.Place
+single (value ∷ other ∷ others) = Err wrong.Absent
 
 abbrev pub pair : List Value → Result (Value × Value) Wrong
-pair [] = Err wrong.Place
-pair (one ∷ []) = Err wrong.Place
+pair [] = Err wrong.Absent
+pair (one ∷ []) = Err wrong.Absent
 pair (one ∷ other ∷ []) = Ok (one, other)
-pair (one ∷ other ∷ another ∷ others) = Err wrong.Place
+pair (one ∷ other ∷ another ∷ others) = Err wrong.Absent
 
 abbrev pub int_of : Value → Result ℤ Wrong
 int_of (v.Int number) = Ok number
@@ -84,7 +84,7 @@ borrowed_by value = Err wrong.Kind
 
 -- the receiver of a row that reads or changes it is a borrow of an object of that type, which ends with the row
 abbrev pub receives : ℕ → List Value → Process → (ObjectId → Object → List Value → Process → RowOutcome) → RowOutcome
-receives kind [] p further = Err wrong.Place
+receives kind [] p further = Err wrong.Absent
 receives kind (receiver ∷ operands) p further =
     after (borrowed_by receiver) (λ id. after (object_at p.objects id) (λ found. needs (found.kind == kind) wrong.Kind
     (after (after_borrow id p.objects) (λ objects. further id found operands (with_objects objects p)))))

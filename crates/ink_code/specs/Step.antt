@@ -54,7 +54,7 @@ instr_step code limits next (i.PromiseSet promise from) p = promise_set_step pro
 unfoldable pub top_step : Code → List ℕ → List Frame → Process → Outcome
 top_step code limits [] p = wants action.Take p
 top_step code limits (frame ∷ outer) p =
-    given wrong.Place (fetch code frame.method frame.place) (λ instr. instr_step code limits (frame.place + 1) instr p)
+    given wrong.Absent (fetch code frame.method frame.place) (λ instr. instr_step code limits (frame.place + 1) instr p)
 
 -- the step of a process whatever steps it made: a drop that waits comes first
 unfoldable pub free_step : Code → List ℕ → List Value → Process → Outcome

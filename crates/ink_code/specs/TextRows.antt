@@ -68,4 +68,4 @@ text_rows limits row values =
     else (if row == 26 then byte_row values
     else (if row == 27 then starts_with_row values
     else (if row == 28 then text_to_string_row values
-    else Err wrong.Place)))))))
+    else Err wrong.Absent)))))))

@@ -10,5 +10,5 @@ pub enum Wrong {
     /// The process has no such object.
     Object,
     /// There is no such register, field, constant, method, row or instruction.
-    Place,
+    Absent,
 }

@@ -6,7 +6,7 @@ use Rattle.ink_grammar.specs.declared.token.Keyword.TheVariants as keyword
 use Rattle.ink_grammar.specs.declared.token.Mark.TheVariants as mark
 use Rattle.ink_grammar.specs.declared.token.Shape.{Shape}
 use Rattle.ink_grammar.specs.declared.token.Shape.TheVariants as shape
-use Rattle.ink_grammar.specs.declared.token.Token.{Token}
+use Rattle.ink_grammar.specs.declared.token.Terminal.{Terminal}
 use Rattle.ink_grammar.specs.declared.tree.OneChild.{OneChild}
 use Rattle.ink_grammar.specs.declared.tree.OneChild.TheVariants as one_of
 use Rattle.ink_grammar.specs.declared.tree.TwoChildren.{TwoChildren}
@@ -85,11 +85,11 @@ abbrev pub returned_error : ℕ → Core → Core
 returned_error here e = Return here (New here made.Error (list_of_one e))
 
 -- the arm of Ok or Error, which binds what is in it to the word `try`
-abbrev pub arm_of_result : ℕ → Constructed → Token → Core → Core
+abbrev pub arm_of_result : ℕ → Constructed → Terminal → Core → Core
 arm_of_result here made word value = arm here (New here made (list_of_one (Var word))) value
 
 -- `try e`
-abbrev pub try : ℕ → Token → Core → Core
+abbrev pub try : ℕ → Terminal → Core → Core
 try start word e =
     Match start choice.Try e
     (list_of_two (arm_of_result start made.Ok word (Var word)) (arm_of_result start made.Error word (returned_error start (Var word))))
@@ -100,7 +100,7 @@ return start label.Absent value = Return start (Lit start literal.Nil)
 return start _ value = Return start value
 
 -- a call of a method of the module by its name
-unfoldable pub called : List ℕ → Token → Core → Core
+unfoldable pub called : List ℕ → Terminal → Core → Core
 called source name arguments =
     if is_spelled source name (codes "panic") then Panic name.start arguments else Fn name arguments
 
@@ -110,29 +110,29 @@ borrow_kind (shape.Keyword keyword.Mut) = borrow.Mut
 borrow_kind _ = borrow.Ref
 
 -- the type that a link stands behind, where it is static
-abbrev pub owner_of : Label → Option Token
+abbrev pub owner_of : Label → Option Terminal
 owner_of (label.Constructor token (made.Named named)) = Some named
 owner_of _ = None
 
 -- a link without arguments
-abbrev pub linked : ℕ → Option Token → Core → Token → Core
+abbrev pub linked : ℕ → Option Terminal → Core → Terminal → Core
 linked start (Some owner) base name = Static start owner name Missing
 linked start None base name = Field start name base
 
 -- a link with arguments
-abbrev pub linked_call : ℕ → Option Token → Core → Token → Core → Core
+abbrev pub linked_call : ℕ → Option Terminal → Core → Terminal → Core → Core
 linked_call start (Some owner) base name arguments = Static start owner name arguments
 linked_call start None base name arguments = Call start (method.Named name) base arguments
 
 -- `p = e`, `p := e`, or `p += e` and its like, in which the place is the receiver too
-unfoldable pub assigned : ℕ → Shape → Token → Core → Core → Core
+unfoldable pub assigned : ℕ → Shape → Terminal → Core → Core → Core
 assigned start (shape.Mark mark.Equals) sign place value = Set start sign.start place value
 assigned start (shape.Mark mark.Swap) sign place value = Swap start sign.start place value
 assigned start _ sign place value =
     Set start sign.start place (Call sign.start (method.OperatorOf sign) place (list_of_one value))
 
 -- two operands with an operator between them
-unfoldable pub operated : ℕ → Shape → Token → Core → Core → Core
+unfoldable pub operated : ℕ → Shape → Terminal → Core → Core → Core
 operated start (shape.Keyword keyword.And) sign a b = and start sign.start a b
 operated start (shape.Keyword keyword.Or) sign a b = or start sign.start a b
 operated start _ sign a b = Call start (method.Operator sign) a (list_of_one b)
@@ -152,7 +152,7 @@ is_named shape.Underscore = false
 is_named _ = true
 
 -- whether a variable is mutable: `_` is none
-abbrev pub is_mutable : Label → Token → Bool
+abbrev pub is_mutable : Label → Terminal → Bool
 is_mutable label.Absent name = false
 is_mutable _ name = is_named name.shape
 

@@ -5,7 +5,7 @@ use Rattle.ink_grammar.specs.declared.token.Keyword.{Keyword}
 use Rattle.ink_grammar.specs.declared.token.Keyword.TheVariants as keyword
 use Rattle.ink_grammar.specs.declared.token.Shape.{Shape}
 use Rattle.ink_grammar.specs.declared.token.Shape.TheVariants as shape
-use Rattle.ink_grammar.specs.declared.token.Token.{Token}
+use Rattle.ink_grammar.specs.declared.token.Terminal.{Terminal}
 use Rattle.ink_core.specs.declared.form.Literal.TheVariants as literal
 use Rattle.ink_core.specs.declared.form.Constructed.{Constructed}
 use Rattle.ink_core.specs.declared.form.Constructed.TheVariants as made
@@ -26,11 +26,11 @@ abbrev pub plain : Core → Sight
 plain core = record { core = core; label = label.Other }
 
 -- a token of no source
-abbrev pub no_token : Token
+abbrev pub no_token : Terminal
 no_token = record { shape = shape.Name; start = 0; end = 0; new_line = false }
 
 -- the token that a node is
-abbrev pub token_of : Label → Token
+abbrev pub token_of : Label → Terminal
 token_of (label.Word token) = token
 token_of (label.Constructor token made) = token
 token_of _ = no_token
@@ -41,18 +41,18 @@ made_of (label.Constructor token made) = made
 made_of other = made.Named (token_of other)
 
 -- the token that a node is, where one is written
-abbrev pub written : Label → Option Token
+abbrev pub written : Label → Option Terminal
 written label.Absent = None
 written other = Some (token_of other)
 
 -- whether the token is written so
-unfoldable pub is_spelled : List ℕ → Token → List ℕ → Bool
+unfoldable pub is_spelled : List ℕ → Terminal → List ℕ → Bool
 is_spelled source token text =
     if nat_le token.start token.end && nat_le token.end (length source) then bytes_eq (slice_range source token.start token.end) text
     else false
 
 -- what a name with a capital letter makes: a constructor of Option or Result by its spelling, else what it names
-unfoldable pub constructed : List ℕ → Token → Constructed
+unfoldable pub constructed : List ℕ → Terminal → Constructed
 constructed source token =
     if is_spelled source token (codes "Some") then made.Some
     else if is_spelled source token (codes "None") then made.None
@@ -61,7 +61,7 @@ constructed source token =
     else made.Named token
 
 -- a keyword that is a value by itself
-unfoldable pub keyword_core : Keyword → Token → Core
+unfoldable pub keyword_core : Keyword → Terminal → Core
 keyword_core keyword.True token = Lit token.start (literal.Bool true)
 keyword_core keyword.False token = Lit token.start (literal.Bool false)
 keyword_core keyword.Nil token = Lit token.start literal.Nil
@@ -71,7 +71,7 @@ keyword_core keyword.Next token = Next token.start
 keyword_core _ token = Word token
 
 -- a token as a value
-unfoldable pub leaf_core : Shape → Token → Core
+unfoldable pub leaf_core : Shape → Terminal → Core
 leaf_core shape.Name token = Var token
 leaf_core shape.Field token = Field token.start token (SelfValue token.start)
 leaf_core shape.Integer token = Lit token.start (literal.Int token)
@@ -81,19 +81,19 @@ leaf_core (shape.Keyword k) token = keyword_core k token
 leaf_core _ token = Word token
 
 -- a name without arguments
-abbrev pub constant : ℕ → Token → Constructed → Sight
+abbrev pub constant : ℕ → Terminal → Constructed → Sight
 constant start token made = record { core = New start made Missing; label = label.Constructor token made }
 
 -- a token by itself
-abbrev pub word : Token → Sight
+abbrev pub word : Terminal → Sight
 word token = record { core = leaf_core token.shape token; label = label.Word token }
 
-unfoldable pub leaf_by : List ℕ → Shape → Token → Sight
+unfoldable pub leaf_by : List ℕ → Shape → Terminal → Sight
 leaf_by source shape.Constant token = constant token.start token (constructed source token)
 leaf_by source _ token = word token
 
 -- a token: a type or constructor without arguments makes an object
-abbrev pub leaf : List ℕ → Token → Sight
+abbrev pub leaf : List ℕ → Terminal → Sight
 leaf source token = leaf_by source token.shape token
 
 -- the last statement of a list in a Drop, if it is a value

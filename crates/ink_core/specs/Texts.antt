@@ -1,6 +1,6 @@
 -- A text with its parts and embedded expressions, as the calls that join them.
 use Rattle.std.specs.Prelude.{◌≡◌, ℕ, zero, suc, List, [], ◌∷◌, ◌++◌, Option, None, Some}
-use Rattle.ink_grammar.specs.declared.token.Token.{Token}
+use Rattle.ink_grammar.specs.declared.token.Terminal.{Terminal}
 use Rattle.ink_core.specs.declared.form.Literal.TheVariants as literal
 use Rattle.ink_core.specs.declared.form.Selector.TheVariants as method
 use Rattle.ink_core.specs.declared.part.Looked.{Looked}
@@ -15,11 +15,11 @@ items_of (More before item) = items_of before ++ item ∷ []
 items_of _ = []
 
 -- the word that an item is, if it is one
-abbrev pub word_of : Core → Option Token
+abbrev pub word_of : Core → Option Terminal
 word_of (Word token) = Some token
 word_of _ = None
 
-abbrev pub piece_by : ℕ → Option Token → Core → Core
+abbrev pub piece_by : ℕ → Option Terminal → Core → Core
 piece_by quote (Some part) item = Lit quote (literal.Text part)
 piece_by quote None item = Call quote (method.ToString quote) item Missing
 
@@ -31,7 +31,7 @@ piece quote item = piece_by quote (word_of item) item
 abbrev pub joined : ℕ → Core → Core → Core
 joined quote before piece = Call quote (method.Plus quote) before (More Empty piece)
 
-abbrev pub first_piece_by : ℕ → Option Token → Core → Core
+abbrev pub first_piece_by : ℕ → Option Terminal → Core → Core
 first_piece_by quote (Some part) item = Lit quote (literal.Text part)
 first_piece_by quote None item = joined quote (Lit quote literal.EmptyText) (piece quote item)
 

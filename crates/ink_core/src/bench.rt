@@ -9,7 +9,7 @@ ghost use Rattle.ink_core.specs.Seen.{seen_of};
 
 use crate::form::{Constructed, CoreModule, Form, FormId, Literal};
 use crate::part::{Label, Looked, NO_TOKEN, Part};
-use ink_grammar::{Keyword, Shape, Token};
+use ink_grammar::{Keyword, Shape, Terminal};
 use std::alloc::{AllocError, Global};
 
 /// No node's number.
@@ -146,7 +146,7 @@ impl Bench {
     }
 
     /// The token that the node of this number is.
-    pub fn token(&self, number: u32) -> Token
+    pub fn token(&self, number: u32) -> Terminal
         ensures { result ≡ spec.token_of (of.at (view.known self.now) number).label }
     {
         match self.label(number) {
@@ -226,7 +226,7 @@ impl Bench {
 
     /// Takes a keyword as a value.
     #[tactic(auto, unfolding(crate::specs::Sights::keyword_core))]
-    fn take_keyword(&mut self, keyword: Keyword, token: Token) -> Result<(), AllocError>
+    fn take_keyword(&mut self, keyword: Keyword, token: Terminal) -> Result<(), AllocError>
         ensures taken { OnOk result (view.taken self.new ≡ spec.keyword_core keyword token ∷ view.taken self.old) }
         ensures known { OnOk result (view.known self.new ≡ view.known self.old) }
     {
@@ -252,7 +252,7 @@ impl Bench {
     }
 
     /// Takes a field of `self`.
-    fn take_field(&mut self, token: Token) -> Result<(), AllocError>
+    fn take_field(&mut self, token: Terminal) -> Result<(), AllocError>
         ensures taken { OnOk result (view.taken self.new ≡ core.Field token.start token (core.SelfValue token.start) ∷ view.taken self.old) }
         ensures known { OnOk result (view.known self.new ≡ view.known self.old) }
     {
@@ -268,7 +268,7 @@ impl Bench {
 
     /// Takes a token as a value.
     #[tactic(auto, unfolding(crate::specs::Sights::leaf_core))]
-    fn take_leaf(&mut self, token: Token) -> Result<(), AllocError>
+    fn take_leaf(&mut self, token: Terminal) -> Result<(), AllocError>
         ensures taken { OnOk result (view.taken self.new ≡ spec.leaf_core token.shape token ∷ view.taken self.old) }
         ensures known { OnOk result (view.known self.new ≡ view.known self.old) }
     {

@@ -11,7 +11,7 @@ ghost use Rattle.ink_core.specs.declared.form.Constructed.TheVariants as made;
 
 use crate::bench::Bench;
 use crate::form::{Choice, Constructed, Form, Literal};
-use ink_grammar::Token;
+use ink_grammar::Terminal;
 use std::alloc::AllocError;
 
 /// Begins the arm of true or false.
@@ -31,7 +31,7 @@ fn open_result_arm(
     bench: &mut Bench,
     here: u32,
     made: Constructed,
-    word: Token,
+    word: Terminal,
 ) -> Result<(), AllocError>
     ensures taken { OnOk result (view.taken bench.new ≡ core.Missing ∷ core.New here made (spec.list_of_one (core.Var word)) ∷ view.taken bench.old) }
     ensures known { OnOk result (view.known bench.new ≡ view.known bench.old) }
@@ -242,7 +242,7 @@ pub(crate) fn throw(bench: &mut Bench, start: u32, e: u32) -> Result<(), AllocEr
 }
 
 /// The value of the arm of Error: the return of what the word binds.
-fn thrown_again(bench: &mut Bench, here: u32, word: Token) -> Result<(), AllocError>
+fn thrown_again(bench: &mut Bench, here: u32, word: Terminal) -> Result<(), AllocError>
     ensures taken { OnOk result (view.taken bench.new ≡ spec.returned_error here (core.Var word) ∷ view.taken bench.old) }
     ensures known { OnOk result (view.known bench.new ≡ view.known bench.old) }
 {
@@ -256,7 +256,7 @@ fn thrown_again(bench: &mut Bench, here: u32, word: Token) -> Result<(), AllocEr
 pub(crate) fn try_value(
     bench: &mut Bench,
     start: u32,
-    word: Token,
+    word: Terminal,
     e: u32,
 ) -> Result<(), AllocError>
     ensures taken { OnOk result (view.taken bench.new ≡ spec.try start word (at (view.known bench.old) e).core ∷ view.taken bench.old) }

@@ -4,7 +4,7 @@
 ghost use Rattle.std.specs.Prelude.{◌≡◌};
 
 use ink_base::BorrowKind;
-use ink_grammar::Token;
+use ink_grammar::Terminal;
 
 /// The number of a node in the vector of its module. A number that is no node's stands for nothing: an annotation, a
 /// result, a guard or arguments that aren't written.
@@ -14,11 +14,11 @@ pub type FormId = u32;
 #[derive(Clone, Copy, PartialEq, Eq)]
 pub enum Literal {
     /// A whole number, in decimal or hexadecimal digits.
-    Int(Token),
+    Int(Terminal),
     Bool(bool),
     Nil,
     /// A run of characters and escapes.
-    Text(Token),
+    Text(Terminal),
     EmptyText,
 }
 
@@ -26,11 +26,11 @@ pub enum Literal {
 #[derive(Clone, Copy, PartialEq, Eq)]
 pub enum Selector {
     /// A method that is called by its name.
-    Named(Token),
+    Named(Terminal),
     /// A method that is called by its operator.
-    Operator(Token),
+    Operator(Terminal),
     /// The operator before the `=` of this token.
-    OperatorOf(Token),
+    OperatorOf(Terminal),
     /// The `+` that a text with embedded expressions adds.
     Plus(u32),
     /// The `to_string` that it adds.
@@ -41,9 +41,9 @@ pub enum Selector {
 #[derive(Clone, Copy, PartialEq, Eq)]
 pub enum Constructed {
     /// A type, or in a pattern a constructor, by its name alone.
-    Named(Token),
+    Named(Terminal),
     /// The constructor of an enum, behind the enum's name.
-    Qualified(Token, Token),
+    Qualified(Terminal, Terminal),
     /// The constructors of the built-in Option and Result.
     Some,
     None,
@@ -79,7 +79,7 @@ pub enum TypeForm {
 #[derive(Clone, Copy, PartialEq, Eq)]
 pub enum Form {
     /// A word that is carried over, as `pub`.
-    Word(Token),
+    Word(Terminal),
     /// A list without items.
     Empty,
     /// A list and the item behind it.
@@ -99,14 +99,14 @@ pub enum Form {
     },
     /// A variable; in a pattern one that it binds, in an import a name. Where it stands for the value that `try` found,
     /// its name is the word `try`, which no source can give to a variable.
-    Var(Token),
+    Var(Terminal),
     SelfValue {
         start: u32,
     },
     /// A field or a method without arguments, by its name, or the part of a tuple, by its number.
     Field {
         start: u32,
-        name: Token,
+        name: Terminal,
         base: FormId,
     },
     Borrow {
@@ -131,7 +131,7 @@ pub enum Form {
     Let {
         start: u32,
         mutable: bool,
-        name: Token,
+        name: Terminal,
         annotation: FormId,
         value: FormId,
     },
@@ -160,13 +160,13 @@ pub enum Form {
     },
     /// A call of a method of the module.
     Fn {
-        name: Token,
+        name: Terminal,
         arguments: FormId,
     },
     Static {
         start: u32,
-        owner: Token,
-        name: Token,
+        owner: Terminal,
+        name: Terminal,
         arguments: FormId,
     },
     Match {
@@ -212,7 +212,7 @@ pub enum Form {
     },
     /// An argument with the name of its field.
     Named {
-        name: Token,
+        name: Terminal,
         value: FormId,
     },
 
@@ -228,10 +228,10 @@ pub enum Form {
     },
     MutableName {
         start: u32,
-        name: Token,
+        name: Terminal,
     },
     FieldPattern {
-        name: Token,
+        name: Terminal,
         pattern: FormId,
     },
     FieldPatterns {
@@ -240,12 +240,12 @@ pub enum Form {
     },
 
     NamedType {
-        name: Token,
+        name: Terminal,
         arguments: FormId,
     },
     /// A type behind `ref`, `mut` or `uni`.
     PrefixedType {
-        prefix: Token,
+        prefix: Terminal,
         bare: FormId,
     },
     TupleType {
@@ -263,29 +263,29 @@ pub enum Form {
         names: FormId,
     },
     TypeParameter {
-        name: Token,
+        name: Terminal,
         bounds: FormId,
     },
     Parameter {
-        name: Token,
+        name: Terminal,
         annotation: FormId,
     },
     /// Type parameters, parameters and a result, each of which may be nothing.
     Signature {
-        name: Token,
+        name: Terminal,
         type_parameters: FormId,
         parameters: FormId,
         result: FormId,
     },
     Constructor {
         start: u32,
-        name: Token,
+        name: Terminal,
         types: FormId,
     },
     FieldDeclaration {
         start: u32,
         words: FormId,
-        name: Token,
+        name: Terminal,
         annotation: FormId,
     },
     Method {
@@ -297,28 +297,28 @@ pub enum Form {
     TraitMethod {
         start: u32,
         words: FormId,
-        name: Token,
+        name: Terminal,
         parameters: FormId,
         result: FormId,
     },
     Trait {
         start: u32,
         words: FormId,
-        name: Token,
+        name: Terminal,
         methods: FormId,
     },
     /// The methods of a type, and the trait that they implement, if one is named.
     Implementation {
         start: u32,
-        name: Token,
-        of_trait: Option<Token>,
+        name: Terminal,
+        of_trait: Option<Terminal>,
         methods: FormId,
     },
     TypeDeclaration {
         start: u32,
         form: TypeForm,
         words: FormId,
-        name: Token,
+        name: Terminal,
         type_parameters: FormId,
         members: FormId,
     },

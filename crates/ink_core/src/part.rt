@@ -4,7 +4,7 @@
 //! A word makes no node before a parent takes it as a value, and the last statement of a list none before it is known
 //! whether another one follows or a body ends. So no node is made that the module doesn't hold.
 use crate::form::{Constructed, FormId};
-use ink_grammar::{Shape, Token};
+use ink_grammar::{Shape, Terminal};
 
 /// What a parent asks of a node.
 #[derive(Clone, Copy)]
@@ -12,9 +12,9 @@ pub(crate) enum Label {
     /// Nothing is written, or a signature without a result.
     Absent,
     /// A token by itself.
-    Word(Token),
+    Word(Terminal),
     /// The name of a type or constructor, and what it makes.
-    Constructor(Token, Constructed),
+    Constructor(Terminal, Constructed),
     /// A value that counts as a statement.
     Statement,
     /// Statements of which the last is such a value.
@@ -29,9 +29,9 @@ pub(crate) enum Label {
 pub(crate) enum Part {
     Nothing,
     /// A token, as a value or word.
-    Leaf(Token),
+    Leaf(Terminal),
     /// A type or constructor without arguments: where it begins, its name and what it makes.
-    Constant(u32, Token, Constructed),
+    Constant(u32, Terminal, Constructed),
     /// A node that is made.
     Made(FormId),
     /// A signature without a result.
@@ -45,7 +45,7 @@ pub(crate) enum Part {
 }
 
 /// No token of a source.
-pub(crate) const NO_TOKEN: Token = Token {
+pub(crate) const NO_TOKEN: Terminal = Terminal {
     shape: Shape::Name,
     start: 0,
     end: 0,
@@ -55,7 +55,7 @@ pub(crate) const NO_TOKEN: Token = Token {
 /// What is seen of a node that is made, where it may be an item of a text or the list of them.
 #[derive(Clone, Copy)]
 pub(crate) enum Looked {
-    Word(Token),
+    Word(Terminal),
     /// A list and the item behind it.
     More(FormId, FormId),
     Other,

@@ -3,11 +3,11 @@ ghost use Rattle.std.specs.Prelude.{◌≡◌};
 ghost use Rattle.ink_core.specs.Sights as spec;
 
 use crate::form::Constructed;
-use ink_grammar::Token;
+use ink_grammar::Terminal;
 
 /// Whether the token is written so.
 #[tactic(auto, unfolding(crate::specs::Sights::is_spelled))]
-pub(crate) fn is_spelled(source: &[u8], token: Token, text: &[u8]) -> bool
+pub(crate) fn is_spelled(source: &[u8], token: Terminal, text: &[u8]) -> bool
     ensures { result ≡ spec.is_spelled source.now token text.now }
 {
     if token.start <= token.end && token.end as usize <= source.len() {
@@ -19,7 +19,7 @@ pub(crate) fn is_spelled(source: &[u8], token: Token, text: &[u8]) -> bool
 
 /// What a name with a capital letter makes.
 #[tactic(auto, unfolding(crate::specs::Sights::constructed))]
-pub(crate) fn constructed(source: &[u8], token: Token) -> Constructed
+pub(crate) fn constructed(source: &[u8], token: Terminal) -> Constructed
     ensures { result ≡ spec.constructed source.now token }
 {
     if is_spelled(source, token, b"Some") {

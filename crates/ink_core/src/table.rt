@@ -15,7 +15,7 @@ use crate::values::{
     assigned, borrow_kind, called, close_new, constructed_with, field, linked, linked_call,
     list_of_three, list_of_two, operated, returned,
 };
-use ink_grammar::{FiveChildren, FourChildren, Shape, ThreeChildren, Token, TwoChildren};
+use ink_grammar::{FiveChildren, FourChildren, Shape, Terminal, ThreeChildren, TwoChildren};
 use std::alloc::AllocError;
 
 /// A value with two children.
@@ -314,7 +314,7 @@ fn method(
 }
 
 /// The token that a node is, where one is written.
-fn written(bench: &Bench, number: u32) -> Option<Token>
+fn written(bench: &Bench, number: u32) -> Option<Terminal>
     ensures { result ≡ sights.written (at (view.known bench.now) number).label }
 {
     match bench.label(number) {
@@ -453,7 +453,7 @@ fn is_named(shape: Shape) -> bool
 }
 
 /// Whether a variable is mutable: `_` is none.
-fn is_mutable(label: Label, name: Token) -> bool
+fn is_mutable(label: Label, name: Terminal) -> bool
     ensures { result ≡ spec.is_mutable label name }
 {
     match label {
@@ -468,7 +468,7 @@ fn type_declaration(
     start: u32,
     form: TypeForm,
     words: u32,
-    name: Token,
+    name: Terminal,
     type_parameters: u32,
     members: u32,
 ) -> Result<(), AllocError>

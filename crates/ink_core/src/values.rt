@@ -14,7 +14,7 @@ use crate::form::{Constructed, Form, Literal, Selector};
 use crate::part::{Label, NO_TOKEN};
 use crate::spelled::is_spelled;
 use ink_base::BorrowKind;
-use ink_grammar::{Keyword, Mark, Shape, Token};
+use ink_grammar::{Keyword, Mark, Shape, Terminal};
 use std::alloc::AllocError;
 
 /// A list of one.
@@ -106,7 +106,7 @@ pub(crate) fn close_call(bench: &mut Bench, start: u32, method: Selector) -> Res
 pub(crate) fn called(
     bench: &mut Bench,
     source: &[u8],
-    name: Token,
+    name: Terminal,
     arguments: u32,
 ) -> Result<(), AllocError>
     ensures taken { OnOk result (view.taken bench.new ≡ spec.called source.now name (at (view.known bench.old) arguments).core ∷ view.taken bench.old) }
@@ -126,7 +126,7 @@ pub(crate) fn called(
 }
 
 /// The type that a link stands behind, where it is static.
-pub(crate) fn owner_of(label: Label) -> Option<Token>
+pub(crate) fn owner_of(label: Label) -> Option<Terminal>
     ensures { result ≡ spec.owner_of label }
 {
     match label {
@@ -140,7 +140,7 @@ pub(crate) fn linked(
     bench: &mut Bench,
     start: u32,
     base: u32,
-    name: Token,
+    name: Terminal,
 ) -> Result<(), AllocError>
     ensures taken { OnOk result (view.taken bench.new ≡ spec.linked start (spec.owner_of (at (view.known bench.old) base).label) (at (view.known bench.old) base).core name ∷ view.taken bench.old) }
     ensures known { OnOk result (view.known bench.new ≡ view.known bench.old) }
@@ -161,7 +161,12 @@ pub(crate) fn linked(
 }
 
 /// A field, or a method without arguments.
-pub(crate) fn field(bench: &mut Bench, start: u32, base: u32, name: Token) -> Result<(), AllocError>
+pub(crate) fn field(
+    bench: &mut Bench,
+    start: u32,
+    base: u32,
+    name: Terminal,
+) -> Result<(), AllocError>
     ensures taken { OnOk result (view.taken bench.new ≡ core.Field start name (at (view.known bench.old) base).core ∷ view.taken bench.old) }
     ensures known { OnOk result (view.known bench.new ≡ view.known bench.old) }
 {
@@ -175,7 +180,7 @@ pub(crate) fn linked_call(
     bench: &mut Bench,
     start: u32,
     base: u32,
-    name: Token,
+    name: Terminal,
     arguments: u32,
 ) -> Result<(), AllocError>
     ensures taken { OnOk result (view.taken bench.new ≡ spec.linked_call start (spec.owner_of (at (view.known bench.old) base).label) (at (view.known bench.old) base).core name (at (view.known bench.old) arguments).core ∷ view.taken bench.old) }
@@ -205,7 +210,7 @@ pub(crate) fn linked_call(
 pub(crate) fn operated(
     bench: &mut Bench,
     start: u32,
-    sign: Token,
+    sign: Terminal,
     a: u32,
     b: u32,
 ) -> Result<(), AllocError>
@@ -224,7 +229,7 @@ pub(crate) fn operated(
 }
 
 /// The value of `p += e` and its like: the place is the receiver.
-fn changed(bench: &mut Bench, sign: Token, place: u32, value: u32) -> Result<(), AllocError>
+fn changed(bench: &mut Bench, sign: Terminal, place: u32, value: u32) -> Result<(), AllocError>
     ensures taken { OnOk result (view.taken bench.new ≡ core.Call sign.start (method.OperatorOf sign) (at (view.known bench.old) place).core (spec.list_of_one (at (view.known bench.old) value).core) ∷ view.taken bench.old) }
     ensures known { OnOk result (view.known bench.new ≡ view.known bench.old) }
 {
@@ -253,7 +258,7 @@ fn close_set(bench: &mut Bench, start: u32, operator: u32) -> Result<(), AllocEr
 pub(crate) fn assigned(
     bench: &mut Bench,
     start: u32,
-    sign: Token,
+    sign: Terminal,
     place: u32,
     value: u32,
 ) -> Result<(), AllocError>

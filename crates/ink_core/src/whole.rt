@@ -12,12 +12,12 @@ use crate::form::{CoreModule, Form};
 use crate::part::Part;
 use crate::spelled::constructed;
 use crate::table::{five, four, three, two};
-use ink_grammar::{Module, Node, OneChild, Shape, Token};
+use ink_grammar::{Module, Node, OneChild, Shape, Terminal};
 use std::alloc::{AllocError, Global};
 
 /// Keeps a token.
 #[tactic(auto, unfolding(crate::specs::Sights::leaf_by))]
-fn keep_leaf(bench: &mut Bench, source: &[u8], token: Token) -> Result<(), AllocError>
+fn keep_leaf(bench: &mut Bench, source: &[u8], token: Terminal) -> Result<(), AllocError>
     ensures { OnOk result (view.known bench.new ≡ view.known bench.old ++ sights.leaf source.now token ∷ []) }
 {
     match token.shape {

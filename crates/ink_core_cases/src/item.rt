@@ -1,6 +1,6 @@
 //! What is still to be listed.
 use ink_core::FormId;
-use ink_grammar::Token;
+use ink_grammar::Terminal;
 
 /// One thing to list.
 #[derive(Clone, Copy)]
@@ -10,7 +10,7 @@ pub(crate) enum Item {
     /// The items of a list, without its brackets.
     Inner(FormId),
     Word(&'static [u8]),
-    Token(Token),
+    Token(Terminal),
     /// A byte of the source.
     At(u32),
 }
@@ -94,7 +94,7 @@ pub(crate) fn three(word: &'static [u8], start: u32, more: Item, children: [Form
 }
 
 /// A token and what belongs to it.
-pub(crate) fn named(name: Token, children: [Item; 3]) -> Line {
+pub(crate) fn named(name: Terminal, children: [Item; 3]) -> Line {
     let [a, b, c] = children;
     [
         OPENING,

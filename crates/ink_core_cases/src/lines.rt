@@ -2,7 +2,7 @@
 use crate::item::{Item, Line, leaf, named, none, one, three, two};
 use ink_base::BorrowKind;
 use ink_core::{Choice, Constructed, Form, Literal, Selector, TypeForm};
-use ink_grammar::Token;
+use ink_grammar::Terminal;
 
 const NONE: [Item; 2] = [Item::Nothing, Item::Nothing];
 
@@ -69,7 +69,7 @@ fn let_word(mutable: bool) -> &'static [u8] {
     if mutable { b"let mut" } else { b"let" }
 }
 
-fn token(token: Token) -> [Item; 2] {
+fn token(token: Terminal) -> [Item; 2] {
     [Item::Token(token), Item::Nothing]
 }
 

@@ -3,12 +3,12 @@ use crate::item::{Item, Line, leaf};
 use crate::lines::line;
 use ink_base::{JudgeFault, Limits, Text};
 use ink_core::{CoreModule, Form, FormId, desugar};
-use ink_grammar::Token;
+use ink_grammar::Terminal;
 use ink_reading::read_module;
 use std::alloc::{AllocError, Global};
 
 /// The bytes of a token, or none where it isn't in the source.
-fn spelled<'a>(source: &'a [u8], token: Token) -> &'a [u8] {
+fn spelled<'a>(source: &'a [u8], token: Terminal) -> &'a [u8] {
     if token.start <= token.end && token.end as usize <= source.len() {
         &source[token.start as usize..token.end as usize]
     } else {

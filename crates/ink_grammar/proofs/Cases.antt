@@ -1,8 +1,8 @@
 -- What the table derives, and what the cases are, is one.
 use Rattle.std.proofs.Common.{◌≡◌, List, [], ◌∷◌, ◌++◌, inl, inr, refl, sym, subst, append-nil}
-use Rattle.ink_grammar.specs.declared.token.Token.{Token}
-use Rattle.ink_grammar.specs.declared.symbol.Part.{Part}
-use Rattle.ink_grammar.specs.declared.symbol.Part.TheVariants as part_of
+use Rattle.ink_grammar.specs.declared.token.Terminal.{Terminal}
+use Rattle.ink_grammar.specs.declared.symbol.Nonterminal.{Nonterminal}
+use Rattle.ink_grammar.specs.declared.symbol.Nonterminal.TheVariants as part_of
 use Rattle.ink_grammar.specs.declared.tree.OneChild.TheVariants as one_of
 use Rattle.ink_grammar.specs.declared.tree.FourChildren.TheVariants as four_of
 use Rattle.ink_grammar.specs.declared.symbol.Symbol.{Symbol}
@@ -19,7 +19,7 @@ use Rattle.ink_grammar.proofs.OperandCases.{operand_rule}
 use Rattle.ink_grammar.proofs.PatternCases.{pattern_rule}
 
 -- What the cases are, the table derives, whatever was found before.
-pub from : {n : Part} {own : List Found} {ts : List Token} {v : Found} → Is n own ts v → (vs : List Found) → Derives n (own ++ vs) ts (v ∷ vs)
+pub from : {n : Nonterminal} {own : List Found} {ts : List Terminal} {v : Found} → Is n own ts v → (vs : List Found) → Derives n (own ++ vs) ts (v ∷ vs)
 from (is_module u0 v0 u1 v1 h0 h1) vs = by (inl refl) (make (part (from h0 vs) tt (make (part (from h1 (v0 ∷ vs)) tt (make done) (sym (append-nil u1)))) refl))
 from (is_imports_1 {a = a} u0 v0 u1 v1 h0 h1) vs = by (inl refl) (part (from h0 (a ∷ vs)) tt (make (part (from h1 vs) tt done (sym (append-nil u1)))) refl)
 from (is_imports_2 {a = a}) vs = by (inr (inl refl)) done
@@ -231,7 +231,7 @@ from (is_field_patterns_rest_2 {a = a} t0 u0 v0 h0 h1) vs = by (inr (inl refl)) 
 from (is_field_patterns_more_1 {a = a} t0 h0) vs = by (inl refl) (token refl h0 done)
 from (is_field_patterns_more_2 {a = a} u0 v0 u1 v1 h0 h1) vs = by (inr (inl refl)) (part (from h0 (a ∷ vs)) tt (make (part (from h1 vs) tt done (sym (append-nil u1)))) refl)
 
-rule : (n : Part) (r : List Symbol) (vs : List Found) (ts : List Token) (fin : List Found) → Among r (rules n) → Means r vs ts fin → After n vs ts (λ z. fin ≡ z)
+rule : (n : Nonterminal) (r : List Symbol) (vs : List Found) (ts : List Terminal) (fin : List Found) → Among r (rules n) → Means r vs ts fin → After n vs ts (λ z. fin ≡ z)
 rule (part_of.Module n) = module_rule n
 rule (part_of.Method n) = method_rule n
 rule (part_of.Type n) = type_rule n
@@ -241,10 +241,10 @@ rule (part_of.Pattern n) = pattern_rule n
 
 mutual
   -- What the table derives are the cases.
-  pub to : {n : Part} {vs : List Found} {ts : List Token} {fin : List Found} → Derives n vs ts fin → After n vs ts (λ z. fin ≡ z)
+  pub to : {n : Nonterminal} {vs : List Found} {ts : List Terminal} {fin : List Found} → Derives n vs ts fin → After n vs ts (λ z. fin ≡ z)
   to (by {n = n} {vs = vs} {ts = ts} {fin = fin} {r = r} h d) = rule n r vs ts fin h (meant d)
 
-  meant : {r : List Symbol} {vs : List Found} {ts : List Token} {fin : List Found} → Reads r vs ts fin → Means r vs ts fin
+  meant : {r : List Symbol} {vs : List Found} {ts : List Terminal} {fin : List Found} → Reads r vs ts fin → Means r vs ts fin
   meant done = (refl, refl)
   meant (token {t = t} {ts = ts} p q d) = (t, ts, refl, p, q, meant d)
   meant (at_place {t = t} {ts = ts} o p q d) = (t, ts, refl, o, p, q, meant d)

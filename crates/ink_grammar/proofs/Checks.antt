@@ -6,8 +6,8 @@ use Rattle.ink_grammar.specs.declared.token.Shape.{Shape}
 use Rattle.ink_grammar.specs.declared.token.Shape.TheVariants as shape
 use Rattle.ink_grammar.specs.declared.symbol.Line.{Line}
 use Rattle.ink_grammar.specs.declared.symbol.Line.TheVariants as line
-use Rattle.ink_grammar.specs.declared.symbol.Part.{Part}
-use Rattle.ink_grammar.specs.declared.symbol.Part.TheVariants as part
+use Rattle.ink_grammar.specs.declared.symbol.Nonterminal.{Nonterminal}
+use Rattle.ink_grammar.specs.declared.symbol.Nonterminal.TheVariants as part
 use Rattle.ink_grammar.specs.declared.symbol.ModulePart.{ModulePart}
 use Rattle.ink_grammar.specs.declared.symbol.MethodPart.{MethodPart}
 use Rattle.ink_grammar.specs.declared.symbol.TypePart.{TypePart}
@@ -43,7 +43,7 @@ empties (s.Place w ∷ r) = false
 empties (s.Part l n ∷ r) = may_be_empty n && empties r
 empties (s.Do a ∷ r) = empties r
 
-abbrev pub strict : Line → Part → Bool
+abbrev pub strict : Line → Nonterminal → Bool
 strict line.Any n = true
 strict line.Same n = not (may_be_empty n)
 strict line.Fresh n = not (may_be_empty n)
@@ -200,7 +200,7 @@ pattern_clash pattern_of.FieldPatternsRest = never [] []
 pattern_clash pattern_of.FieldPatternsMore = never [] []
 
 -- The tokens that never follow a part.
-abbrev pub clash : Part → Shape → Bool → Bool
+abbrev pub clash : Nonterminal → Shape → Bool → Bool
 clash (part.Module n) = module_clash n
 clash (part.Method n) = method_clash n
 clash (part.Type n) = type_clash n
@@ -209,7 +209,7 @@ clash (part.Operand n) = operand_clash n
 clash (part.Pattern n) = pattern_clash n
 
 -- What a rule may be and may begin with is what its part may.
-abbrev pub closed : Part → List Symbol → Bool
+abbrev pub closed : Nonterminal → List Symbol → Bool
 closed n r = implies (empties r) (may_be_empty n) && every (λ shape new_line. implies (opens r shape new_line) (begins n shape new_line))
 
 -- A rule that a token begins is the first that goes on with it.
@@ -220,14 +220,14 @@ told (r ∷ rs) = every (λ shape new_line. implies (opens r shape new_line) (go
     && told rs
 
 -- A rule that is no token is the first that goes on with what may follow its part.
-abbrev pub told_empty : Part → List (List Symbol) → Bool
+abbrev pub told_empty : Nonterminal → List (List Symbol) → Bool
 told_empty n [] = true
 told_empty n (r ∷ rs) = implies (empties r) (ends r && every (λ shape new_line. goes r shape new_line))
     && all (λ q. implies (empties q) (not (ends r) && every (λ shape new_line. implies (goes r shape new_line) (clash n shape new_line)))) rs
     && told_empty n rs
 
 -- No part is followed by what never follows it.
-abbrev pub parted : Part → List Symbol → Bool
+abbrev pub parted : Nonterminal → List Symbol → Bool
 parted n [] = true
 parted n (s.Part l m ∷ r) = strict l m
     && every (λ shape new_line. implies (clash m shape new_line) (not (opens r shape new_line)))
@@ -248,7 +248,7 @@ abbrev pub plain : List Symbol → Bool
 plain [] = true
 plain (x ∷ r) = has_no_place r
 
-abbrev pub sound : Part → Bool
+abbrev pub sound : Nonterminal → Bool
 sound n = all (closed n) (rules n) && told (rules n) && told_empty n (rules n) && all (parted n) (rules n) && all plain (rules n)
 
 module_is_sound : (n : ModulePart) → sound (part.Module n) ≡ true
@@ -363,7 +363,7 @@ pattern_is_sound pattern_of.FieldPattern = refl
 pattern_is_sound pattern_of.FieldPatternsRest = refl
 pattern_is_sound pattern_of.FieldPatternsMore = refl
 
-pub is_sound : (n : Part) → sound n ≡ true
+pub is_sound : (n : Nonterminal) → sound n ≡ true
 is_sound (part.Module n) = module_is_sound n
 is_sound (part.Method n) = method_is_sound n
 is_sound (part.Type n) = type_is_sound n

@@ -1,8 +1,8 @@
 -- What symbols find, by cases.
 use Rattle.std.proofs.Common.{◌≡◌, ℕ, zero, suc, true, false, List, [], ◌∷◌, ◌++◌}
-use Rattle.ink_grammar.specs.declared.token.Token.{Token}
-use Rattle.ink_grammar.specs.declared.symbol.Part.{Part}
-use Rattle.ink_grammar.specs.declared.symbol.Part.TheVariants as part_of
+use Rattle.ink_grammar.specs.declared.token.Terminal.{Terminal}
+use Rattle.ink_grammar.specs.declared.symbol.Nonterminal.{Nonterminal}
+use Rattle.ink_grammar.specs.declared.symbol.Nonterminal.TheVariants as part_of
 use Rattle.ink_grammar.specs.declared.symbol.ModulePart.{ModulePart}
 use Rattle.ink_grammar.specs.declared.symbol.ModulePart.TheVariants as module_of
 use Rattle.ink_grammar.specs.declared.symbol.MethodPart.{MethodPart}
@@ -101,7 +101,7 @@ pattern_takes pattern_of.FieldPatternsMore = 1
 pattern_takes _ = 0
 
 -- how many of the values before it are a part's own
-abbrev pub takes : Part → ℕ
+abbrev pub takes : Nonterminal → ℕ
 takes (part_of.Module n) = module_takes n
 takes (part_of.Method n) = method_takes n
 takes (part_of.Type n) = type_takes n
@@ -109,24 +109,24 @@ takes (part_of.Statement n) = statement_takes n
 takes (part_of.Operand n) = operand_takes n
 takes (part_of.Pattern n) = pattern_takes n
 
-abbrev pub AfterSome : ℕ → Part → List Found → List Found → List Token → (List Found → Type 0) → Type 0
+abbrev pub AfterSome : ℕ → Nonterminal → List Found → List Found → List Terminal → (List Found → Type 0) → Type 0
 AfterSome zero n own vs us f = (v : Found) × Is n own us v × f (v ∷ vs)
 AfterSome (suc k) n own [] us f = Unit {0}
 AfterSome (suc k) n own (a ∷ vs) us f = AfterSome k n (own ++ a ∷ []) vs us f
 
 -- These tokens are the part by cases, and of what is found this holds.
-abbrev pub After : Part → List Found → List Token → (List Found → Type 0) → Type 0
+abbrev pub After : Nonterminal → List Found → List Terminal → (List Found → Type 0) → Type 0
 After n vs us f = AfterSome (takes n) n [] vs us f
 
-pub after_map : (k : ℕ) (n : Part) (own vs : List Found) (us : List Token) (f g : List Found → Type 0) → ((z : List Found) → f z → g z) → AfterSome k n own vs us f → AfterSome k n own vs us g
+pub after_map : (k : ℕ) (n : Nonterminal) (own vs : List Found) (us : List Terminal) (f g : List Found → Type 0) → ((z : List Found) → f z → g z) → AfterSome k n own vs us f → AfterSome k n own vs us g
 after_map zero n own vs us f g h a = (a.0, a.1, h _ a.2)
 after_map (suc k) n own [] us f g h a = a
 after_map (suc k) n own (x ∷ vs) us f g h a = after_map k n (own ++ x ∷ []) vs us f g h a
 
 -- What is read, symbol by symbol.
-abbrev pub Means : List Symbol → List Found → List Token → List Found → Type 0
+abbrev pub Means : List Symbol → List Found → List Terminal → List Found → Type 0
 Means [] vs ts fin = (ts ≡ []) × (fin ≡ vs)
-Means (of.Token l w ∷ r) vs ts fin = (t : Token) × (more : List Token) × (ts ≡ t ∷ more) × (stands l t.new_line ≡ true) × (is w t.shape ≡ true) × Means r (keep w t vs) more fin
-Means (of.Place w ∷ r) vs ts fin = (t : Token) × (more : List Token) × (ts ≡ t ∷ more) × (is_place vs ≡ true) × (t.new_line ≡ false) × (is w t.shape ≡ true) × Means r (keep w t vs) more fin
-Means (of.Part l n ∷ r) vs ts fin = (us : List Token) × (ws : List Token) × (ts ≡ us ++ ws) × Opens l us × After n vs us (λ mid. Means r mid ws fin)
+Means (of.Token l w ∷ r) vs ts fin = (t : Terminal) × (more : List Terminal) × (ts ≡ t ∷ more) × (stands l t.new_line ≡ true) × (is w t.shape ≡ true) × Means r (keep w t vs) more fin
+Means (of.Place w ∷ r) vs ts fin = (t : Terminal) × (more : List Terminal) × (ts ≡ t ∷ more) × (is_place vs ≡ true) × (t.new_line ≡ false) × (is w t.shape ≡ true) × Means r (keep w t vs) more fin
+Means (of.Part l n ∷ r) vs ts fin = (us : List Terminal) × (ws : List Terminal) × (ts ≡ us ++ ws) × Opens l us × After n vs us (λ mid. Means r mid ws fin)
 Means (of.Do a ∷ r) vs ts fin = Means r (act a vs) ts fin

@@ -1,10 +1,10 @@
 -- How much is still to be done: each token pays for what it leads to.
 use Rattle.std.proofs.Common.{◌≡◌, ℕ, Bool, true, false, ◌&&◌, ◌==◌, if◌then◌else◌, List, [], ◌∷◌, ◌++◌, Option, Some, None, refl, sym, ap, subst, ◌∙◌}
-use Rattle.ink_grammar.specs.declared.token.Token.{Token}
+use Rattle.ink_grammar.specs.declared.token.Terminal.{Terminal}
 use Rattle.ink_grammar.specs.declared.symbol.Line.{Line}
 use Rattle.ink_grammar.specs.declared.symbol.Line.TheVariants as line
-use Rattle.ink_grammar.specs.declared.symbol.Part.{Part}
-use Rattle.ink_grammar.specs.declared.symbol.Part.TheVariants as part_of
+use Rattle.ink_grammar.specs.declared.symbol.Nonterminal.{Nonterminal}
+use Rattle.ink_grammar.specs.declared.symbol.Nonterminal.TheVariants as part_of
 use Rattle.ink_grammar.specs.declared.symbol.ModulePart.{ModulePart}
 use Rattle.ink_grammar.specs.declared.symbol.MethodPart.{MethodPart}
 use Rattle.ink_grammar.specs.declared.symbol.TypePart.{TypePart}
@@ -88,7 +88,7 @@ pattern_weight pattern_of.FieldPatternsMore = 4
 pattern_weight _ = 1
 
 -- more than what its cheapest way on costs
-abbrev pub weight : Part → ℕ
+abbrev pub weight : Nonterminal → ℕ
 weight (part_of.Module n) = module_weight n
 weight (part_of.Method n) = method_weight n
 weight (part_of.Type n) = type_weight n
@@ -97,11 +97,11 @@ weight (part_of.Operand n) = operand_weight n
 weight (part_of.Pattern n) = pattern_weight n
 
 -- a part that is no token, or may begin with one that is none
-abbrev late : Part → Bool
+abbrev late : Nonterminal → Bool
 late (part_of.Operand operand_of.NamedOrNot) = true
 late n = may_be_empty n
 
-late_empty : (n : Part) → may_be_empty n ≡ true → late n ≡ true
+late_empty : (n : Nonterminal) → may_be_empty n ≡ true → late n ≡ true
 late_empty (part_of.Module n) e = e
 late_empty (part_of.Method n) e = e
 late_empty (part_of.Type n) e = e
@@ -149,7 +149,7 @@ abbrev pub work : List Symbol → ℕ → ℕ
 work r left = 100 * (2 * left - due r) + cost r
 
 -- a rule costs less than its part, where it brings no token nearer
-abbrev cheap : Part → List Symbol → Bool
+abbrev cheap : Nonterminal → List Symbol → Bool
 cheap n r = if nat_lt (due (of.Part line.Any n ∷ [])) (due r) then nat_lt (cost r) 100 else (due r == due (of.Part line.Any n ∷ []) && nat_lt (cost r) (weight n))
 
 module_cheap : (n : ModulePart) → all (cheap (part_of.Module n)) (rules (part_of.Module n)) ≡ true
@@ -264,7 +264,7 @@ pattern_cheap pattern_of.FieldPattern = refl
 pattern_cheap pattern_of.FieldPatternsRest = refl
 pattern_cheap pattern_of.FieldPatternsMore = refl
 
-all_cheap : (n : Part) → all (cheap n) (rules n) ≡ true
+all_cheap : (n : Nonterminal) → all (cheap n) (rules n) ≡ true
 all_cheap (part_of.Module n) = module_cheap n
 all_cheap (part_of.Method n) = method_cheap n
 all_cheap (part_of.Type n) = type_cheap n
@@ -286,7 +286,7 @@ due_append (of.Place w ∷ r) s = omega arith
 due_append (of.Do a ∷ r) s = omega arith
 due_append (of.Part l n ∷ r) s = omega arith
 
-pub pick_fits : (rs : List (List Symbol)) (o : Option Token) (r : List Symbol) → pick rs o ≡ Some r → fits r o ≡ true
+pub pick_fits : (rs : List (List Symbol)) (o : Option Terminal) (r : List Symbol) → pick rs o ≡ Some r → fits r o ≡ true
 pick_fits [] o r e = cc
 pick_fits (q ∷ rs) o r e = by_cases (fits q o)
     (λ f. let g : Some q ≡ Some r = sym (ap (λ b. if b then Some q else pick rs o) f) ∙ e in let h : q ≡ r = cc in subst (λ x. fits x o ≡ true) h f)
@@ -311,14 +311,14 @@ if_both true y z e f g = f refl e
 if_both false y z e f g = g refl e
 
 -- the part of l does not show in what is due
-due_part : (l : Line) (n : Part) (s : List Symbol) → due (of.Part l n ∷ s) ≡ due (of.Part line.Any n ∷ [])
+due_part : (l : Line) (n : Nonterminal) (s : List Symbol) → due (of.Part l n ∷ s) ≡ due (of.Part line.Any n ∷ [])
 due_part l n s = refl
 
-has_left : (n : Part) (r : List Symbol) (left : ℕ) (o : Option Token) → fits r o ≡ true → nat_lt (due (of.Part line.Any n ∷ [])) (due r) ≡ true → ((t : Token) → o ≡ Some t → 0 < left) → 0 < left
+has_left : (n : Nonterminal) (r : List Symbol) (left : ℕ) (o : Option Terminal) → fits r o ≡ true → nat_lt (due (of.Part line.Any n ∷ [])) (due r) ≡ true → ((t : Terminal) → o ≡ Some t → 0 < left) → 0 < left
 has_left n r left None f a h = let a' : due (of.Part line.Any n ∷ []) < due r = ltb-true (due (of.Part line.Any n ∷ [])) (due r) a in let z = not_due r f in let bad : ⊥ = omega arith in absurd bad
 has_left n r left (Some t) f a h = h t refl
 
-module _ (l : Line) (n : Part) (r s : List Symbol) (left : ℕ) where
+module _ (l : Line) (n : Nonterminal) (r s : List Symbol) (left : ℕ) where
   nearer : nat_lt (due (of.Part line.Any n ∷ [])) (due r) ≡ true → nat_lt (cost r) 100 ≡ true → 0 < left → work (r ++ s) left < work (of.Part l n ∷ s) left
   nearer a b h =
       let a' : due (of.Part line.Any n ∷ []) < due r = ltb-true (due (of.Part line.Any n ∷ [])) (due r) a in
@@ -330,7 +330,7 @@ module _ (l : Line) (n : Part) (r s : List Symbol) (left : ℕ) where
       let b' : cost r < weight n = ltb-true (cost r) (weight n) b in
       omega (arith, due_append r s, cost_append r s)
 
-  pub work_part : (o : Option Token) → pick (rules n) o ≡ Some r → ((t : Token) → o ≡ Some t → 0 < left) → work (r ++ s) left < work (of.Part l n ∷ s) left
+  pub work_part : (o : Option Terminal) → pick (rules n) o ≡ Some r → ((t : Terminal) → o ≡ Some t → 0 < left) → work (r ++ s) left < work (of.Part l n ∷ s) left
   work_part o e h =
       let f = pick_fits (rules n) o r e in
       let c = all_at (cheap n) (rules n) r (all_cheap n) (pick_among (rules n) o r e) in

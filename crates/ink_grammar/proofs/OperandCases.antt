@@ -1,7 +1,7 @@
 -- What the productions of operands find is found by cases.
 use Rattle.std.proofs.Common.{◌≡◌, List, [], ◌∷◌, ◌++◌, inl, inr, sym, ap, subst, ◌∙◌, append-nil}
-use Rattle.ink_grammar.specs.declared.token.Token.{Token}
-use Rattle.ink_grammar.specs.declared.symbol.Part.TheVariants as part_of
+use Rattle.ink_grammar.specs.declared.token.Terminal.{Terminal}
+use Rattle.ink_grammar.specs.declared.symbol.Nonterminal.TheVariants as part_of
 use Rattle.ink_grammar.specs.declared.symbol.OperandPart.TheVariants as operand_of
 use Rattle.ink_grammar.specs.declared.tree.OneChild.TheVariants as one_of
 use Rattle.ink_grammar.specs.declared.tree.TwoChildren.TheVariants as two_of
@@ -16,7 +16,7 @@ use Rattle.ink_grammar.specs.Productions.{Is, is_operand_1, is_operand_2, is_unn
 use Rattle.ink_grammar.proofs.Samples.{nth}
 use Rattle.ink_grammar.proofs.Meaning.{After, Means}
 
-rule_is_operand_1 : (vs : List Found) (ts : List Token) (fin : List Found) → Means (nth 0 (operand_rules operand_of.Operand)) (vs) ts fin → After (part_of.Operand operand_of.Operand) (vs) ts (λ z. fin ≡ z)
+rule_is_operand_1 : (vs : List Found) (ts : List Terminal) (fin : List Found) → Means (nth 0 (operand_rules operand_of.Operand)) (vs) ts fin → After (part_of.Operand operand_of.Operand) (vs) ts (λ z. fin ≡ z)
 rule_is_operand_1 vs ts fin m =
     let t0 = m.0 in
     let u0 = m.5.0 in
@@ -26,14 +26,14 @@ rule_is_operand_1 vs ts fin m =
     let e : ts ≡ t0 ∷ (u0 ++ u1) = m.2 ∙ ap (λ z. t0 ∷ z) (m.5.2 ∙ ap (λ z. u0 ++ z) (m.5.4.2.2 ∙ ap (λ z. u1 ++ z) m.5.4.2.4.2.0 ∙ append-nil u1)) in
     (v1, subst (λ z. Is (part_of.Operand operand_of.Operand) [] z v1) (sym e) (is_operand_1 t0 u0 v0 u1 v1 m.4 m.5.4.1 m.5.4.2.4.1), m.5.4.2.4.2.1)
 
-rule_is_operand_2 : (vs : List Found) (ts : List Token) (fin : List Found) → Means (nth 1 (operand_rules operand_of.Operand)) (vs) ts fin → After (part_of.Operand operand_of.Operand) (vs) ts (λ z. fin ≡ z)
+rule_is_operand_2 : (vs : List Found) (ts : List Terminal) (fin : List Found) → Means (nth 1 (operand_rules operand_of.Operand)) (vs) ts fin → After (part_of.Operand operand_of.Operand) (vs) ts (λ z. fin ≡ z)
 rule_is_operand_2 vs ts fin m =
     let u0 = m.0 in
     let v0 = m.4.0 in
     let e : ts ≡ u0 = m.2 ∙ ap (λ z. u0 ++ z) m.4.2.0 ∙ append-nil u0 in
     (v0, subst (λ z. Is (part_of.Operand operand_of.Operand) [] z v0) (sym e) (is_operand_2 u0 v0 m.4.1), m.4.2.1)
 
-rule_is_unnamed_operand_1 : (vs : List Found) (ts : List Token) (fin : List Found) → Means (nth 0 (operand_rules operand_of.UnnamedOperand)) (vs) ts fin → After (part_of.Operand operand_of.UnnamedOperand) (vs) ts (λ z. fin ≡ z)
+rule_is_unnamed_operand_1 : (vs : List Found) (ts : List Terminal) (fin : List Found) → Means (nth 0 (operand_rules operand_of.UnnamedOperand)) (vs) ts fin → After (part_of.Operand operand_of.UnnamedOperand) (vs) ts (λ z. fin ≡ z)
 rule_is_unnamed_operand_1 vs ts fin m =
     let t0 = m.0 in
     let u0 = m.5.0 in
@@ -41,7 +41,7 @@ rule_is_unnamed_operand_1 vs ts fin m =
     let e : ts ≡ t0 ∷ u0 = m.2 ∙ ap (λ z. t0 ∷ z) (m.5.2 ∙ ap (λ z. u0 ++ z) m.5.4.2.0 ∙ append-nil u0) in
     (node_two two_of.Borrow (leaf t0) v0, subst (λ z. Is (part_of.Operand operand_of.UnnamedOperand) [] z (node_two two_of.Borrow (leaf t0) v0)) (sym e) (is_unnamed_operand_1 t0 u0 v0 m.4 m.5.4.1), m.5.4.2.1)
 
-rule_is_unnamed_operand_2 : (vs : List Found) (ts : List Token) (fin : List Found) → Means (nth 1 (operand_rules operand_of.UnnamedOperand)) (vs) ts fin → After (part_of.Operand operand_of.UnnamedOperand) (vs) ts (λ z. fin ≡ z)
+rule_is_unnamed_operand_2 : (vs : List Found) (ts : List Terminal) (fin : List Found) → Means (nth 1 (operand_rules operand_of.UnnamedOperand)) (vs) ts fin → After (part_of.Operand operand_of.UnnamedOperand) (vs) ts (λ z. fin ≡ z)
 rule_is_unnamed_operand_2 vs ts fin m =
     let t0 = m.0 in
     let u0 = m.5.0 in
@@ -49,7 +49,7 @@ rule_is_unnamed_operand_2 vs ts fin m =
     let e : ts ≡ t0 ∷ u0 = m.2 ∙ ap (λ z. t0 ∷ z) (m.5.2 ∙ ap (λ z. u0 ++ z) m.5.4.2.0 ∙ append-nil u0) in
     (node_two two_of.Try (leaf t0) v0, subst (λ z. Is (part_of.Operand operand_of.UnnamedOperand) [] z (node_two two_of.Try (leaf t0) v0)) (sym e) (is_unnamed_operand_2 t0 u0 v0 m.4 m.5.4.1), m.5.4.2.1)
 
-rule_is_unnamed_operand_3 : (vs : List Found) (ts : List Token) (fin : List Found) → Means (nth 2 (operand_rules operand_of.UnnamedOperand)) (vs) ts fin → After (part_of.Operand operand_of.UnnamedOperand) (vs) ts (λ z. fin ≡ z)
+rule_is_unnamed_operand_3 : (vs : List Found) (ts : List Terminal) (fin : List Found) → Means (nth 2 (operand_rules operand_of.UnnamedOperand)) (vs) ts fin → After (part_of.Operand operand_of.UnnamedOperand) (vs) ts (λ z. fin ≡ z)
 rule_is_unnamed_operand_3 vs ts fin m =
     let t0 = m.0 in
     let u0 = m.5.0 in
@@ -57,7 +57,7 @@ rule_is_unnamed_operand_3 vs ts fin m =
     let e : ts ≡ t0 ∷ u0 = m.2 ∙ ap (λ z. t0 ∷ z) (m.5.2 ∙ ap (λ z. u0 ++ z) m.5.4.2.0 ∙ append-nil u0) in
     (v0, subst (λ z. Is (part_of.Operand operand_of.UnnamedOperand) [] z v0) (sym e) (is_unnamed_operand_3 t0 u0 v0 m.4 m.5.4.1), m.5.4.2.1)
 
-rule_is_unnamed_operand_4 : (vs : List Found) (ts : List Token) (fin : List Found) → Means (nth 3 (operand_rules operand_of.UnnamedOperand)) (vs) ts fin → After (part_of.Operand operand_of.UnnamedOperand) (vs) ts (λ z. fin ≡ z)
+rule_is_unnamed_operand_4 : (vs : List Found) (ts : List Terminal) (fin : List Found) → Means (nth 3 (operand_rules operand_of.UnnamedOperand)) (vs) ts fin → After (part_of.Operand operand_of.UnnamedOperand) (vs) ts (λ z. fin ≡ z)
 rule_is_unnamed_operand_4 vs ts fin m =
     let t0 = m.0 in
     let u0 = m.5.0 in
@@ -65,7 +65,7 @@ rule_is_unnamed_operand_4 vs ts fin m =
     let e : ts ≡ t0 ∷ u0 = m.2 ∙ ap (λ z. t0 ∷ z) (m.5.2 ∙ ap (λ z. u0 ++ z) m.5.4.2.0 ∙ append-nil u0) in
     (v0, subst (λ z. Is (part_of.Operand operand_of.UnnamedOperand) [] z v0) (sym e) (is_unnamed_operand_4 t0 u0 v0 m.4 m.5.4.1), m.5.4.2.1)
 
-rule_is_unnamed_operand_5 : (vs : List Found) (ts : List Token) (fin : List Found) → Means (nth 4 (operand_rules operand_of.UnnamedOperand)) (vs) ts fin → After (part_of.Operand operand_of.UnnamedOperand) (vs) ts (λ z. fin ≡ z)
+rule_is_unnamed_operand_5 : (vs : List Found) (ts : List Terminal) (fin : List Found) → Means (nth 4 (operand_rules operand_of.UnnamedOperand)) (vs) ts fin → After (part_of.Operand operand_of.UnnamedOperand) (vs) ts (λ z. fin ≡ z)
 rule_is_unnamed_operand_5 vs ts fin m =
     let u0 = m.0 in
     let v0 = m.4.0 in
@@ -74,21 +74,21 @@ rule_is_unnamed_operand_5 vs ts fin m =
     let e : ts ≡ u0 ++ u1 = m.2 ∙ ap (λ z. u0 ++ z) (m.4.2.2 ∙ ap (λ z. u1 ++ z) m.4.2.4.2.0 ∙ append-nil u1) in
     (v1, subst (λ z. Is (part_of.Operand operand_of.UnnamedOperand) [] z v1) (sym e) (is_unnamed_operand_5 u0 v0 u1 v1 m.4.1 m.4.2.4.1), m.4.2.4.2.1)
 
-rule_is_recover_rest_1 : (a : Found) (vs : List Found) (ts : List Token) (fin : List Found) → Means (nth 0 (operand_rules operand_of.RecoverRest)) (a ∷ vs) ts fin → After (part_of.Operand operand_of.RecoverRest) (a ∷ vs) ts (λ z. fin ≡ z)
+rule_is_recover_rest_1 : (a : Found) (vs : List Found) (ts : List Terminal) (fin : List Found) → Means (nth 0 (operand_rules operand_of.RecoverRest)) (a ∷ vs) ts fin → After (part_of.Operand operand_of.RecoverRest) (a ∷ vs) ts (λ z. fin ≡ z)
 rule_is_recover_rest_1 a vs ts fin m =
     let u0 = m.0 in
     let v0 = m.4.0 in
     let e : ts ≡ u0 = m.2 ∙ ap (λ z. u0 ++ z) m.4.2.0 ∙ append-nil u0 in
     (node_two two_of.Recover a v0, subst (λ z. Is (part_of.Operand operand_of.RecoverRest) (a ∷ []) z (node_two two_of.Recover a v0)) (sym e) (is_recover_rest_1 u0 v0 m.4.1), m.4.2.1)
 
-rule_is_recover_rest_2 : (a : Found) (vs : List Found) (ts : List Token) (fin : List Found) → Means (nth 1 (operand_rules operand_of.RecoverRest)) (a ∷ vs) ts fin → After (part_of.Operand operand_of.RecoverRest) (a ∷ vs) ts (λ z. fin ≡ z)
+rule_is_recover_rest_2 : (a : Found) (vs : List Found) (ts : List Terminal) (fin : List Found) → Means (nth 1 (operand_rules operand_of.RecoverRest)) (a ∷ vs) ts fin → After (part_of.Operand operand_of.RecoverRest) (a ∷ vs) ts (λ z. fin ≡ z)
 rule_is_recover_rest_2 a vs ts fin m =
     let u0 = m.0 in
     let v0 = m.4.0 in
     let e : ts ≡ u0 = m.2 ∙ ap (λ z. u0 ++ z) m.4.2.0 ∙ append-nil u0 in
     (node_two two_of.Recover a (node_one one_of.Statement v0), subst (λ z. Is (part_of.Operand operand_of.RecoverRest) (a ∷ []) z (node_two two_of.Recover a (node_one one_of.Statement v0))) (sym e) (is_recover_rest_2 u0 v0 m.4.1), m.4.2.1)
 
-rule_is_name_rest_1 : (a : Found) (vs : List Found) (ts : List Token) (fin : List Found) → Means (nth 0 (operand_rules operand_of.NameRest)) (a ∷ vs) ts fin → After (part_of.Operand operand_of.NameRest) (a ∷ vs) ts (λ z. fin ≡ z)
+rule_is_name_rest_1 : (a : Found) (vs : List Found) (ts : List Terminal) (fin : List Found) → Means (nth 0 (operand_rules operand_of.NameRest)) (a ∷ vs) ts fin → After (part_of.Operand operand_of.NameRest) (a ∷ vs) ts (λ z. fin ≡ z)
 rule_is_name_rest_1 a vs ts fin m =
     let t0 = m.0 in
     let u0 = m.5.0 in
@@ -96,12 +96,12 @@ rule_is_name_rest_1 a vs ts fin m =
     let e : ts ≡ t0 ∷ u0 = m.2 ∙ ap (λ z. t0 ∷ z) (m.5.2 ∙ ap (λ z. u0 ++ z) m.5.4.2.0 ∙ append-nil u0) in
     (node_two two_of.Call a v0, subst (λ z. Is (part_of.Operand operand_of.NameRest) (a ∷ []) z (node_two two_of.Call a v0)) (sym e) (is_name_rest_1 t0 u0 v0 m.3 m.4 m.5.4.1), m.5.4.2.1)
 
-rule_is_name_rest_2 : (a : Found) (vs : List Found) (ts : List Token) (fin : List Found) → Means (nth 1 (operand_rules operand_of.NameRest)) (a ∷ vs) ts fin → After (part_of.Operand operand_of.NameRest) (a ∷ vs) ts (λ z. fin ≡ z)
+rule_is_name_rest_2 : (a : Found) (vs : List Found) (ts : List Terminal) (fin : List Found) → Means (nth 1 (operand_rules operand_of.NameRest)) (a ∷ vs) ts fin → After (part_of.Operand operand_of.NameRest) (a ∷ vs) ts (λ z. fin ≡ z)
 rule_is_name_rest_2 a vs ts fin m =
     let e : ts ≡ [] = m.0 in
     (a, subst (λ z. Is (part_of.Operand operand_of.NameRest) (a ∷ []) z a) (sym e) is_name_rest_2, m.1)
 
-rule_is_links_1 : (a : Found) (vs : List Found) (ts : List Token) (fin : List Found) → Means (nth 0 (operand_rules operand_of.Links)) (a ∷ vs) ts fin → After (part_of.Operand operand_of.Links) (a ∷ vs) ts (λ z. fin ≡ z)
+rule_is_links_1 : (a : Found) (vs : List Found) (ts : List Terminal) (fin : List Found) → Means (nth 0 (operand_rules operand_of.Links)) (a ∷ vs) ts fin → After (part_of.Operand operand_of.Links) (a ∷ vs) ts (λ z. fin ≡ z)
 rule_is_links_1 a vs ts fin m =
     let t0 = m.0 in
     let u0 = m.5.0 in
@@ -111,12 +111,12 @@ rule_is_links_1 a vs ts fin m =
     let e : ts ≡ t0 ∷ (u0 ++ u1) = m.2 ∙ ap (λ z. t0 ∷ z) (m.5.2 ∙ ap (λ z. u0 ++ z) (m.5.4.2.2 ∙ ap (λ z. u1 ++ z) m.5.4.2.4.2.0 ∙ append-nil u1)) in
     (v1, subst (λ z. Is (part_of.Operand operand_of.Links) (a ∷ []) z v1) (sym e) (is_links_1 t0 u0 v0 u1 v1 m.4 m.5.4.1 m.5.4.2.4.1), m.5.4.2.4.2.1)
 
-rule_is_links_2 : (a : Found) (vs : List Found) (ts : List Token) (fin : List Found) → Means (nth 1 (operand_rules operand_of.Links)) (a ∷ vs) ts fin → After (part_of.Operand operand_of.Links) (a ∷ vs) ts (λ z. fin ≡ z)
+rule_is_links_2 : (a : Found) (vs : List Found) (ts : List Terminal) (fin : List Found) → Means (nth 1 (operand_rules operand_of.Links)) (a ∷ vs) ts fin → After (part_of.Operand operand_of.Links) (a ∷ vs) ts (λ z. fin ≡ z)
 rule_is_links_2 a vs ts fin m =
     let e : ts ≡ [] = m.0 in
     (a, subst (λ z. Is (part_of.Operand operand_of.Links) (a ∷ []) z a) (sym e) is_links_2, m.1)
 
-rule_is_link_1 : (a : Found) (vs : List Found) (ts : List Token) (fin : List Found) → Means (nth 0 (operand_rules operand_of.Link)) (a ∷ vs) ts fin → After (part_of.Operand operand_of.Link) (a ∷ vs) ts (λ z. fin ≡ z)
+rule_is_link_1 : (a : Found) (vs : List Found) (ts : List Terminal) (fin : List Found) → Means (nth 0 (operand_rules operand_of.Link)) (a ∷ vs) ts fin → After (part_of.Operand operand_of.Link) (a ∷ vs) ts (λ z. fin ≡ z)
 rule_is_link_1 a vs ts fin m =
     let t0 = m.0 in
     let u0 = m.5.0 in
@@ -124,13 +124,13 @@ rule_is_link_1 a vs ts fin m =
     let e : ts ≡ t0 ∷ u0 = m.2 ∙ ap (λ z. t0 ∷ z) (m.5.2 ∙ ap (λ z. u0 ++ z) m.5.4.2.0 ∙ append-nil u0) in
     (v0, subst (λ z. Is (part_of.Operand operand_of.Link) (a ∷ []) z v0) (sym e) (is_link_1 t0 u0 v0 m.4 m.5.4.1), m.5.4.2.1)
 
-rule_is_link_2 : (a : Found) (vs : List Found) (ts : List Token) (fin : List Found) → Means (nth 1 (operand_rules operand_of.Link)) (a ∷ vs) ts fin → After (part_of.Operand operand_of.Link) (a ∷ vs) ts (λ z. fin ≡ z)
+rule_is_link_2 : (a : Found) (vs : List Found) (ts : List Terminal) (fin : List Found) → Means (nth 1 (operand_rules operand_of.Link)) (a ∷ vs) ts fin → After (part_of.Operand operand_of.Link) (a ∷ vs) ts (λ z. fin ≡ z)
 rule_is_link_2 a vs ts fin m =
     let t0 = m.0 in
     let e : ts ≡ t0 ∷ [] = m.2 ∙ ap (λ z. t0 ∷ z) (m.5.0) in
     (node_two two_of.TupleItem a (leaf t0), subst (λ z. Is (part_of.Operand operand_of.Link) (a ∷ []) z (node_two two_of.TupleItem a (leaf t0))) (sym e) (is_link_2 t0 m.4), m.5.1)
 
-rule_is_link_rest_1 : (a : Found) (b : Found) (vs : List Found) (ts : List Token) (fin : List Found) → Means (nth 0 (operand_rules operand_of.LinkRest)) (b ∷ a ∷ vs) ts fin → After (part_of.Operand operand_of.LinkRest) (b ∷ a ∷ vs) ts (λ z. fin ≡ z)
+rule_is_link_rest_1 : (a : Found) (b : Found) (vs : List Found) (ts : List Terminal) (fin : List Found) → Means (nth 0 (operand_rules operand_of.LinkRest)) (b ∷ a ∷ vs) ts fin → After (part_of.Operand operand_of.LinkRest) (b ∷ a ∷ vs) ts (λ z. fin ≡ z)
 rule_is_link_rest_1 a b vs ts fin m =
     let t0 = m.0 in
     let u0 = m.5.0 in
@@ -138,12 +138,12 @@ rule_is_link_rest_1 a b vs ts fin m =
     let e : ts ≡ t0 ∷ u0 = m.2 ∙ ap (λ z. t0 ∷ z) (m.5.2 ∙ ap (λ z. u0 ++ z) m.5.4.2.0 ∙ append-nil u0) in
     (node_three three_of.MemberCall a b v0, subst (λ z. Is (part_of.Operand operand_of.LinkRest) (b ∷ a ∷ []) z (node_three three_of.MemberCall a b v0)) (sym e) (is_link_rest_1 t0 u0 v0 m.3 m.4 m.5.4.1), m.5.4.2.1)
 
-rule_is_link_rest_2 : (a : Found) (b : Found) (vs : List Found) (ts : List Token) (fin : List Found) → Means (nth 1 (operand_rules operand_of.LinkRest)) (b ∷ a ∷ vs) ts fin → After (part_of.Operand operand_of.LinkRest) (b ∷ a ∷ vs) ts (λ z. fin ≡ z)
+rule_is_link_rest_2 : (a : Found) (b : Found) (vs : List Found) (ts : List Terminal) (fin : List Found) → Means (nth 1 (operand_rules operand_of.LinkRest)) (b ∷ a ∷ vs) ts fin → After (part_of.Operand operand_of.LinkRest) (b ∷ a ∷ vs) ts (λ z. fin ≡ z)
 rule_is_link_rest_2 a b vs ts fin m =
     let e : ts ≡ [] = m.0 in
     (node_two two_of.Member a b, subst (λ z. Is (part_of.Operand operand_of.LinkRest) (b ∷ a ∷ []) z (node_two two_of.Member a b)) (sym e) is_link_rest_2, m.1)
 
-rule_is_constant_rest_1 : (a : Found) (vs : List Found) (ts : List Token) (fin : List Found) → Means (nth 0 (operand_rules operand_of.ConstantRest)) (a ∷ vs) ts fin → After (part_of.Operand operand_of.ConstantRest) (a ∷ vs) ts (λ z. fin ≡ z)
+rule_is_constant_rest_1 : (a : Found) (vs : List Found) (ts : List Terminal) (fin : List Found) → Means (nth 0 (operand_rules operand_of.ConstantRest)) (a ∷ vs) ts fin → After (part_of.Operand operand_of.ConstantRest) (a ∷ vs) ts (λ z. fin ≡ z)
 rule_is_constant_rest_1 a vs ts fin m =
     let t0 = m.0 in
     let u0 = m.5.0 in
@@ -153,7 +153,7 @@ rule_is_constant_rest_1 a vs ts fin m =
     let e : ts ≡ t0 ∷ (u0 ++ u1) = m.2 ∙ ap (λ z. t0 ∷ z) (m.5.2 ∙ ap (λ z. u0 ++ z) (m.5.4.2.2 ∙ ap (λ z. u1 ++ z) m.5.4.2.4.2.0 ∙ append-nil u1)) in
     (v1, subst (λ z. Is (part_of.Operand operand_of.ConstantRest) (a ∷ []) z v1) (sym e) (is_constant_rest_1 t0 u0 v0 u1 v1 m.3 m.4 m.5.4.1 m.5.4.2.4.1), m.5.4.2.4.2.1)
 
-rule_is_constant_rest_2 : (a : Found) (vs : List Found) (ts : List Token) (fin : List Found) → Means (nth 1 (operand_rules operand_of.ConstantRest)) (a ∷ vs) ts fin → After (part_of.Operand operand_of.ConstantRest) (a ∷ vs) ts (λ z. fin ≡ z)
+rule_is_constant_rest_2 : (a : Found) (vs : List Found) (ts : List Terminal) (fin : List Found) → Means (nth 1 (operand_rules operand_of.ConstantRest)) (a ∷ vs) ts fin → After (part_of.Operand operand_of.ConstantRest) (a ∷ vs) ts (λ z. fin ≡ z)
 rule_is_constant_rest_2 a vs ts fin m =
     let t0 = m.0 in
     let u0 = m.5.0 in
@@ -161,12 +161,12 @@ rule_is_constant_rest_2 a vs ts fin m =
     let e : ts ≡ t0 ∷ u0 = m.2 ∙ ap (λ z. t0 ∷ z) (m.5.2 ∙ ap (λ z. u0 ++ z) m.5.4.2.0 ∙ append-nil u0) in
     (v0, subst (λ z. Is (part_of.Operand operand_of.ConstantRest) (a ∷ []) z v0) (sym e) (is_constant_rest_2 t0 u0 v0 m.4 m.5.4.1), m.5.4.2.1)
 
-rule_is_constant_rest_3 : (a : Found) (vs : List Found) (ts : List Token) (fin : List Found) → Means (nth 2 (operand_rules operand_of.ConstantRest)) (a ∷ vs) ts fin → After (part_of.Operand operand_of.ConstantRest) (a ∷ vs) ts (λ z. fin ≡ z)
+rule_is_constant_rest_3 : (a : Found) (vs : List Found) (ts : List Terminal) (fin : List Found) → Means (nth 2 (operand_rules operand_of.ConstantRest)) (a ∷ vs) ts fin → After (part_of.Operand operand_of.ConstantRest) (a ∷ vs) ts (λ z. fin ≡ z)
 rule_is_constant_rest_3 a vs ts fin m =
     let e : ts ≡ [] = m.0 in
     (a, subst (λ z. Is (part_of.Operand operand_of.ConstantRest) (a ∷ []) z a) (sym e) is_constant_rest_3, m.1)
 
-rule_is_after_constant_1 : (a : Found) (vs : List Found) (ts : List Token) (fin : List Found) → Means (nth 0 (operand_rules operand_of.AfterConstant)) (a ∷ vs) ts fin → After (part_of.Operand operand_of.AfterConstant) (a ∷ vs) ts (λ z. fin ≡ z)
+rule_is_after_constant_1 : (a : Found) (vs : List Found) (ts : List Terminal) (fin : List Found) → Means (nth 0 (operand_rules operand_of.AfterConstant)) (a ∷ vs) ts fin → After (part_of.Operand operand_of.AfterConstant) (a ∷ vs) ts (λ z. fin ≡ z)
 rule_is_after_constant_1 a vs ts fin m =
     let t0 = m.0 in
     let u0 = m.5.0 in
@@ -176,7 +176,7 @@ rule_is_after_constant_1 a vs ts fin m =
     let e : ts ≡ t0 ∷ (u0 ++ u1) = m.2 ∙ ap (λ z. t0 ∷ z) (m.5.2 ∙ ap (λ z. u0 ++ z) (m.5.4.2.2 ∙ ap (λ z. u1 ++ z) m.5.4.2.4.2.0 ∙ append-nil u1)) in
     (v1, subst (λ z. Is (part_of.Operand operand_of.AfterConstant) (a ∷ []) z v1) (sym e) (is_after_constant_1 t0 u0 v0 u1 v1 m.4 m.5.4.1 m.5.4.2.4.1), m.5.4.2.4.2.1)
 
-rule_is_after_constant_2 : (a : Found) (vs : List Found) (ts : List Token) (fin : List Found) → Means (nth 1 (operand_rules operand_of.AfterConstant)) (a ∷ vs) ts fin → After (part_of.Operand operand_of.AfterConstant) (a ∷ vs) ts (λ z. fin ≡ z)
+rule_is_after_constant_2 : (a : Found) (vs : List Found) (ts : List Terminal) (fin : List Found) → Means (nth 1 (operand_rules operand_of.AfterConstant)) (a ∷ vs) ts fin → After (part_of.Operand operand_of.AfterConstant) (a ∷ vs) ts (λ z. fin ≡ z)
 rule_is_after_constant_2 a vs ts fin m =
     let u0 = m.0 in
     let v0 = m.4.0 in
@@ -185,7 +185,7 @@ rule_is_after_constant_2 a vs ts fin m =
     let e : ts ≡ u0 ++ u1 = m.2 ∙ ap (λ z. u0 ++ z) (m.4.2.2 ∙ ap (λ z. u1 ++ z) m.4.2.4.2.0 ∙ append-nil u1) in
     (v1, subst (λ z. Is (part_of.Operand operand_of.AfterConstant) (a ∷ []) z v1) (sym e) (is_after_constant_2 u0 v0 u1 v1 m.4.1 m.4.2.4.1), m.4.2.4.2.1)
 
-rule_is_qualified_rest_1 : (a : Found) (vs : List Found) (ts : List Token) (fin : List Found) → Means (nth 0 (operand_rules operand_of.QualifiedRest)) (a ∷ vs) ts fin → After (part_of.Operand operand_of.QualifiedRest) (a ∷ vs) ts (λ z. fin ≡ z)
+rule_is_qualified_rest_1 : (a : Found) (vs : List Found) (ts : List Terminal) (fin : List Found) → Means (nth 0 (operand_rules operand_of.QualifiedRest)) (a ∷ vs) ts fin → After (part_of.Operand operand_of.QualifiedRest) (a ∷ vs) ts (λ z. fin ≡ z)
 rule_is_qualified_rest_1 a vs ts fin m =
     let t0 = m.0 in
     let u0 = m.5.0 in
@@ -193,18 +193,18 @@ rule_is_qualified_rest_1 a vs ts fin m =
     let e : ts ≡ t0 ∷ u0 = m.2 ∙ ap (λ z. t0 ∷ z) (m.5.2 ∙ ap (λ z. u0 ++ z) m.5.4.2.0 ∙ append-nil u0) in
     (node_two two_of.Construct a v0, subst (λ z. Is (part_of.Operand operand_of.QualifiedRest) (a ∷ []) z (node_two two_of.Construct a v0)) (sym e) (is_qualified_rest_1 t0 u0 v0 m.3 m.4 m.5.4.1), m.5.4.2.1)
 
-rule_is_qualified_rest_2 : (a : Found) (vs : List Found) (ts : List Token) (fin : List Found) → Means (nth 1 (operand_rules operand_of.QualifiedRest)) (a ∷ vs) ts fin → After (part_of.Operand operand_of.QualifiedRest) (a ∷ vs) ts (λ z. fin ≡ z)
+rule_is_qualified_rest_2 : (a : Found) (vs : List Found) (ts : List Terminal) (fin : List Found) → Means (nth 1 (operand_rules operand_of.QualifiedRest)) (a ∷ vs) ts fin → After (part_of.Operand operand_of.QualifiedRest) (a ∷ vs) ts (λ z. fin ≡ z)
 rule_is_qualified_rest_2 a vs ts fin m =
     let e : ts ≡ [] = m.0 in
     (a, subst (λ z. Is (part_of.Operand operand_of.QualifiedRest) (a ∷ []) z a) (sym e) is_qualified_rest_2, m.1)
 
-rule_is_primary_1 : (vs : List Found) (ts : List Token) (fin : List Found) → Means (nth 0 (operand_rules operand_of.Primary)) (vs) ts fin → After (part_of.Operand operand_of.Primary) (vs) ts (λ z. fin ≡ z)
+rule_is_primary_1 : (vs : List Found) (ts : List Terminal) (fin : List Found) → Means (nth 0 (operand_rules operand_of.Primary)) (vs) ts fin → After (part_of.Operand operand_of.Primary) (vs) ts (λ z. fin ≡ z)
 rule_is_primary_1 vs ts fin m =
     let t0 = m.0 in
     let e : ts ≡ t0 ∷ [] = m.2 ∙ ap (λ z. t0 ∷ z) (m.5.0) in
     (leaf t0, subst (λ z. Is (part_of.Operand operand_of.Primary) [] z (leaf t0)) (sym e) (is_primary_1 t0 m.4), m.5.1)
 
-rule_is_primary_2 : (vs : List Found) (ts : List Token) (fin : List Found) → Means (nth 1 (operand_rules operand_of.Primary)) (vs) ts fin → After (part_of.Operand operand_of.Primary) (vs) ts (λ z. fin ≡ z)
+rule_is_primary_2 : (vs : List Found) (ts : List Terminal) (fin : List Found) → Means (nth 1 (operand_rules operand_of.Primary)) (vs) ts fin → After (part_of.Operand operand_of.Primary) (vs) ts (λ z. fin ≡ z)
 rule_is_primary_2 vs ts fin m =
     let t0 = m.0 in
     let u0 = m.5.0 in
@@ -212,7 +212,7 @@ rule_is_primary_2 vs ts fin m =
     let e : ts ≡ t0 ∷ u0 = m.2 ∙ ap (λ z. t0 ∷ z) (m.5.2 ∙ ap (λ z. u0 ++ z) m.5.4.2.0 ∙ append-nil u0) in
     (node_two two_of.Text (leaf t0) v0, subst (λ z. Is (part_of.Operand operand_of.Primary) [] z (node_two two_of.Text (leaf t0) v0)) (sym e) (is_primary_2 t0 u0 v0 m.4 m.5.4.1), m.5.4.2.1)
 
-rule_is_primary_3 : (vs : List Found) (ts : List Token) (fin : List Found) → Means (nth 2 (operand_rules operand_of.Primary)) (vs) ts fin → After (part_of.Operand operand_of.Primary) (vs) ts (λ z. fin ≡ z)
+rule_is_primary_3 : (vs : List Found) (ts : List Terminal) (fin : List Found) → Means (nth 2 (operand_rules operand_of.Primary)) (vs) ts fin → After (part_of.Operand operand_of.Primary) (vs) ts (λ z. fin ≡ z)
 rule_is_primary_3 vs ts fin m =
     let t0 = m.0 in
     let u0 = m.5.0 in
@@ -222,7 +222,7 @@ rule_is_primary_3 vs ts fin m =
     let e : ts ≡ t0 ∷ (u0 ++ u1) = m.2 ∙ ap (λ z. t0 ∷ z) (m.5.2 ∙ ap (λ z. u0 ++ z) (m.5.4.2.2 ∙ ap (λ z. u1 ++ z) m.5.4.2.4.2.0 ∙ append-nil u1)) in
     (v1, subst (λ z. Is (part_of.Operand operand_of.Primary) [] z v1) (sym e) (is_primary_3 t0 u0 v0 u1 v1 m.4 m.5.4.1 m.5.4.2.4.1), m.5.4.2.4.2.1)
 
-rule_is_primary_4 : (vs : List Found) (ts : List Token) (fin : List Found) → Means (nth 3 (operand_rules operand_of.Primary)) (vs) ts fin → After (part_of.Operand operand_of.Primary) (vs) ts (λ z. fin ≡ z)
+rule_is_primary_4 : (vs : List Found) (ts : List Terminal) (fin : List Found) → Means (nth 3 (operand_rules operand_of.Primary)) (vs) ts fin → After (part_of.Operand operand_of.Primary) (vs) ts (λ z. fin ≡ z)
 rule_is_primary_4 vs ts fin m =
     let t0 = m.0 in
     let u0 = m.5.0 in
@@ -230,14 +230,14 @@ rule_is_primary_4 vs ts fin m =
     let e : ts ≡ t0 ∷ u0 = m.2 ∙ ap (λ z. t0 ∷ z) (m.5.2 ∙ ap (λ z. u0 ++ z) m.5.4.2.0 ∙ append-nil u0) in
     (node_two two_of.Array (leaf t0) v0, subst (λ z. Is (part_of.Operand operand_of.Primary) [] z (node_two two_of.Array (leaf t0) v0)) (sym e) (is_primary_4 t0 u0 v0 m.4 m.5.4.1), m.5.4.2.1)
 
-rule_is_primary_5 : (vs : List Found) (ts : List Token) (fin : List Found) → Means (nth 4 (operand_rules operand_of.Primary)) (vs) ts fin → After (part_of.Operand operand_of.Primary) (vs) ts (λ z. fin ≡ z)
+rule_is_primary_5 : (vs : List Found) (ts : List Terminal) (fin : List Found) → Means (nth 4 (operand_rules operand_of.Primary)) (vs) ts fin → After (part_of.Operand operand_of.Primary) (vs) ts (λ z. fin ≡ z)
 rule_is_primary_5 vs ts fin m =
     let u0 = m.0 in
     let v0 = m.4.0 in
     let e : ts ≡ u0 = m.2 ∙ ap (λ z. u0 ++ z) m.4.2.0 ∙ append-nil u0 in
     (v0, subst (λ z. Is (part_of.Operand operand_of.Primary) [] z v0) (sym e) (is_primary_5 u0 v0 m.4.1), m.4.2.1)
 
-rule_is_primary_6 : (vs : List Found) (ts : List Token) (fin : List Found) → Means (nth 5 (operand_rules operand_of.Primary)) (vs) ts fin → After (part_of.Operand operand_of.Primary) (vs) ts (λ z. fin ≡ z)
+rule_is_primary_6 : (vs : List Found) (ts : List Terminal) (fin : List Found) → Means (nth 5 (operand_rules operand_of.Primary)) (vs) ts fin → After (part_of.Operand operand_of.Primary) (vs) ts (λ z. fin ≡ z)
 rule_is_primary_6 vs ts fin m =
     let t0 = m.0 in
     let u0 = m.5.0 in
@@ -247,7 +247,7 @@ rule_is_primary_6 vs ts fin m =
     let e : ts ≡ t0 ∷ (u0 ++ u1) = m.2 ∙ ap (λ z. t0 ∷ z) (m.5.2 ∙ ap (λ z. u0 ++ z) (m.5.4.2.2 ∙ ap (λ z. u1 ++ z) m.5.4.2.4.2.0 ∙ append-nil u1)) in
     (node_three three_of.While (leaf t0) (node_one one_of.Statement v0) v1, subst (λ z. Is (part_of.Operand operand_of.Primary) [] z (node_three three_of.While (leaf t0) (node_one one_of.Statement v0) v1)) (sym e) (is_primary_6 t0 u0 v0 u1 v1 m.4 m.5.4.1 m.5.4.2.4.1), m.5.4.2.4.2.1)
 
-rule_is_primary_7 : (vs : List Found) (ts : List Token) (fin : List Found) → Means (nth 6 (operand_rules operand_of.Primary)) (vs) ts fin → After (part_of.Operand operand_of.Primary) (vs) ts (λ z. fin ≡ z)
+rule_is_primary_7 : (vs : List Found) (ts : List Terminal) (fin : List Found) → Means (nth 6 (operand_rules operand_of.Primary)) (vs) ts fin → After (part_of.Operand operand_of.Primary) (vs) ts (λ z. fin ≡ z)
 rule_is_primary_7 vs ts fin m =
     let t0 = m.0 in
     let u0 = m.5.0 in
@@ -255,7 +255,7 @@ rule_is_primary_7 vs ts fin m =
     let e : ts ≡ t0 ∷ u0 = m.2 ∙ ap (λ z. t0 ∷ z) (m.5.2 ∙ ap (λ z. u0 ++ z) m.5.4.2.0 ∙ append-nil u0) in
     (node_two two_of.Loop (leaf t0) v0, subst (λ z. Is (part_of.Operand operand_of.Primary) [] z (node_two two_of.Loop (leaf t0) v0)) (sym e) (is_primary_7 t0 u0 v0 m.4 m.5.4.1), m.5.4.2.1)
 
-rule_is_primary_8 : (vs : List Found) (ts : List Token) (fin : List Found) → Means (nth 7 (operand_rules operand_of.Primary)) (vs) ts fin → After (part_of.Operand operand_of.Primary) (vs) ts (λ z. fin ≡ z)
+rule_is_primary_8 : (vs : List Found) (ts : List Terminal) (fin : List Found) → Means (nth 7 (operand_rules operand_of.Primary)) (vs) ts fin → After (part_of.Operand operand_of.Primary) (vs) ts (λ z. fin ≡ z)
 rule_is_primary_8 vs ts fin m =
     let t0 = m.0 in
     let u0 = m.5.0 in
@@ -269,13 +269,13 @@ rule_is_primary_8 vs ts fin m =
     let e : ts ≡ t0 ∷ (u0 ++ (t1 ∷ (u1 ++ (u2 ++ (t2 ∷ []))))) = m.2 ∙ ap (λ z. t0 ∷ z) (m.5.2 ∙ ap (λ z. u0 ++ z) (m.5.4.2.2 ∙ ap (λ z. t1 ∷ z) (m.5.4.2.5.2 ∙ ap (λ z. u1 ++ z) (m.5.4.2.5.4.2.2 ∙ ap (λ z. u2 ++ z) (m.5.4.2.5.4.2.4.2.2 ∙ ap (λ z. t2 ∷ z) (m.5.4.2.5.4.2.4.2.5.0)))))) in
     (node_three three_of.Match (leaf t0) (node_one one_of.Statement v0) v2, subst (λ z. Is (part_of.Operand operand_of.Primary) [] z (node_three three_of.Match (leaf t0) (node_one one_of.Statement v0) v2)) (sym e) (is_primary_8 t0 u0 v0 t1 u1 v1 u2 v2 t2 m.4 m.5.4.1 m.5.4.2.4 m.5.4.2.5.4.1 m.5.4.2.5.4.2.4.1 m.5.4.2.5.4.2.4.2.4), m.5.4.2.5.4.2.4.2.5.1)
 
-rule_is_text_rest_1 : (a : Found) (vs : List Found) (ts : List Token) (fin : List Found) → Means (nth 0 (operand_rules operand_of.TextRest)) (a ∷ vs) ts fin → After (part_of.Operand operand_of.TextRest) (a ∷ vs) ts (λ z. fin ≡ z)
+rule_is_text_rest_1 : (a : Found) (vs : List Found) (ts : List Terminal) (fin : List Found) → Means (nth 0 (operand_rules operand_of.TextRest)) (a ∷ vs) ts fin → After (part_of.Operand operand_of.TextRest) (a ∷ vs) ts (λ z. fin ≡ z)
 rule_is_text_rest_1 a vs ts fin m =
     let t0 = m.0 in
     let e : ts ≡ t0 ∷ [] = m.2 ∙ ap (λ z. t0 ∷ z) (m.5.0) in
     (a, subst (λ z. Is (part_of.Operand operand_of.TextRest) (a ∷ []) z a) (sym e) (is_text_rest_1 t0 m.4), m.5.1)
 
-rule_is_text_rest_2 : (a : Found) (vs : List Found) (ts : List Token) (fin : List Found) → Means (nth 1 (operand_rules operand_of.TextRest)) (a ∷ vs) ts fin → After (part_of.Operand operand_of.TextRest) (a ∷ vs) ts (λ z. fin ≡ z)
+rule_is_text_rest_2 : (a : Found) (vs : List Found) (ts : List Terminal) (fin : List Found) → Means (nth 1 (operand_rules operand_of.TextRest)) (a ∷ vs) ts fin → After (part_of.Operand operand_of.TextRest) (a ∷ vs) ts (λ z. fin ≡ z)
 rule_is_text_rest_2 a vs ts fin m =
     let t0 = m.0 in
     let u0 = m.5.0 in
@@ -283,7 +283,7 @@ rule_is_text_rest_2 a vs ts fin m =
     let e : ts ≡ t0 ∷ u0 = m.2 ∙ ap (λ z. t0 ∷ z) (m.5.2 ∙ ap (λ z. u0 ++ z) m.5.4.2.0 ∙ append-nil u0) in
     (v0, subst (λ z. Is (part_of.Operand operand_of.TextRest) (a ∷ []) z v0) (sym e) (is_text_rest_2 t0 u0 v0 m.4 m.5.4.1), m.5.4.2.1)
 
-rule_is_text_rest_3 : (a : Found) (vs : List Found) (ts : List Token) (fin : List Found) → Means (nth 2 (operand_rules operand_of.TextRest)) (a ∷ vs) ts fin → After (part_of.Operand operand_of.TextRest) (a ∷ vs) ts (λ z. fin ≡ z)
+rule_is_text_rest_3 : (a : Found) (vs : List Found) (ts : List Terminal) (fin : List Found) → Means (nth 2 (operand_rules operand_of.TextRest)) (a ∷ vs) ts fin → After (part_of.Operand operand_of.TextRest) (a ∷ vs) ts (λ z. fin ≡ z)
 rule_is_text_rest_3 a vs ts fin m =
     let t0 = m.0 in
     let u0 = m.5.0 in
@@ -294,13 +294,13 @@ rule_is_text_rest_3 a vs ts fin m =
     let e : ts ≡ t0 ∷ (u0 ++ (t1 ∷ u1)) = m.2 ∙ ap (λ z. t0 ∷ z) (m.5.2 ∙ ap (λ z. u0 ++ z) (m.5.4.2.2 ∙ ap (λ z. t1 ∷ z) (m.5.4.2.5.2 ∙ ap (λ z. u1 ++ z) m.5.4.2.5.4.2.0 ∙ append-nil u1))) in
     (v1, subst (λ z. Is (part_of.Operand operand_of.TextRest) (a ∷ []) z v1) (sym e) (is_text_rest_3 t0 u0 v0 t1 u1 v1 m.4 m.5.4.1 m.5.4.2.4 m.5.4.2.5.4.1), m.5.4.2.5.4.2.1)
 
-rule_is_parenthesis_rest_1 : (a : Found) (b : Found) (vs : List Found) (ts : List Token) (fin : List Found) → Means (nth 0 (operand_rules operand_of.ParenthesisRest)) (b ∷ a ∷ vs) ts fin → After (part_of.Operand operand_of.ParenthesisRest) (b ∷ a ∷ vs) ts (λ z. fin ≡ z)
+rule_is_parenthesis_rest_1 : (a : Found) (b : Found) (vs : List Found) (ts : List Terminal) (fin : List Found) → Means (nth 0 (operand_rules operand_of.ParenthesisRest)) (b ∷ a ∷ vs) ts fin → After (part_of.Operand operand_of.ParenthesisRest) (b ∷ a ∷ vs) ts (λ z. fin ≡ z)
 rule_is_parenthesis_rest_1 a b vs ts fin m =
     let t0 = m.0 in
     let e : ts ≡ t0 ∷ [] = m.2 ∙ ap (λ z. t0 ∷ z) (m.5.0) in
     (in_parentheses a b, subst (λ z. Is (part_of.Operand operand_of.ParenthesisRest) (b ∷ a ∷ []) z (in_parentheses a b)) (sym e) (is_parenthesis_rest_1 t0 m.4), m.5.1)
 
-rule_is_parenthesis_rest_2 : (a : Found) (b : Found) (vs : List Found) (ts : List Token) (fin : List Found) → Means (nth 1 (operand_rules operand_of.ParenthesisRest)) (b ∷ a ∷ vs) ts fin → After (part_of.Operand operand_of.ParenthesisRest) (b ∷ a ∷ vs) ts (λ z. fin ≡ z)
+rule_is_parenthesis_rest_2 : (a : Found) (b : Found) (vs : List Found) (ts : List Terminal) (fin : List Found) → Means (nth 1 (operand_rules operand_of.ParenthesisRest)) (b ∷ a ∷ vs) ts fin → After (part_of.Operand operand_of.ParenthesisRest) (b ∷ a ∷ vs) ts (λ z. fin ≡ z)
 rule_is_parenthesis_rest_2 a b vs ts fin m =
     let t0 = m.0 in
     let u0 = m.5.0 in
@@ -310,13 +310,13 @@ rule_is_parenthesis_rest_2 a b vs ts fin m =
     let e : ts ≡ t0 ∷ (u0 ++ u1) = m.2 ∙ ap (λ z. t0 ∷ z) (m.5.2 ∙ ap (λ z. u0 ++ z) (m.5.4.2.2 ∙ ap (λ z. u1 ++ z) m.5.4.2.4.2.0 ∙ append-nil u1)) in
     (v1, subst (λ z. Is (part_of.Operand operand_of.ParenthesisRest) (b ∷ a ∷ []) z v1) (sym e) (is_parenthesis_rest_2 t0 u0 v0 u1 v1 m.4 m.5.4.1 m.5.4.2.4.1), m.5.4.2.4.2.1)
 
-rule_is_tuple_rest_1 : (a : Found) (b : Found) (c : Found) (vs : List Found) (ts : List Token) (fin : List Found) → Means (nth 0 (operand_rules operand_of.TupleRest)) (c ∷ b ∷ a ∷ vs) ts fin → After (part_of.Operand operand_of.TupleRest) (c ∷ b ∷ a ∷ vs) ts (λ z. fin ≡ z)
+rule_is_tuple_rest_1 : (a : Found) (b : Found) (c : Found) (vs : List Found) (ts : List Terminal) (fin : List Found) → Means (nth 0 (operand_rules operand_of.TupleRest)) (c ∷ b ∷ a ∷ vs) ts fin → After (part_of.Operand operand_of.TupleRest) (c ∷ b ∷ a ∷ vs) ts (λ z. fin ≡ z)
 rule_is_tuple_rest_1 a b c vs ts fin m =
     let t0 = m.0 in
     let e : ts ≡ t0 ∷ [] = m.2 ∙ ap (λ z. t0 ∷ z) (m.5.0) in
     (node_three three_of.Pair a b c, subst (λ z. Is (part_of.Operand operand_of.TupleRest) (c ∷ b ∷ a ∷ []) z (node_three three_of.Pair a b c)) (sym e) (is_tuple_rest_1 t0 m.4), m.5.1)
 
-rule_is_tuple_rest_2 : (a : Found) (b : Found) (c : Found) (vs : List Found) (ts : List Token) (fin : List Found) → Means (nth 1 (operand_rules operand_of.TupleRest)) (c ∷ b ∷ a ∷ vs) ts fin → After (part_of.Operand operand_of.TupleRest) (c ∷ b ∷ a ∷ vs) ts (λ z. fin ≡ z)
+rule_is_tuple_rest_2 : (a : Found) (b : Found) (c : Found) (vs : List Found) (ts : List Terminal) (fin : List Found) → Means (nth 1 (operand_rules operand_of.TupleRest)) (c ∷ b ∷ a ∷ vs) ts fin → After (part_of.Operand operand_of.TupleRest) (c ∷ b ∷ a ∷ vs) ts (λ z. fin ≡ z)
 rule_is_tuple_rest_2 a b c vs ts fin m =
     let t0 = m.0 in
     let u0 = m.5.0 in
@@ -325,13 +325,13 @@ rule_is_tuple_rest_2 a b c vs ts fin m =
     let e : ts ≡ t0 ∷ (u0 ++ (t1 ∷ [])) = m.2 ∙ ap (λ z. t0 ∷ z) (m.5.2 ∙ ap (λ z. u0 ++ z) (m.5.4.2.2 ∙ ap (λ z. t1 ∷ z) (m.5.4.2.5.0))) in
     (node_four four_of.Triple a b c v0, subst (λ z. Is (part_of.Operand operand_of.TupleRest) (c ∷ b ∷ a ∷ []) z (node_four four_of.Triple a b c v0)) (sym e) (is_tuple_rest_2 t0 u0 v0 t1 m.4 m.5.4.1 m.5.4.2.4), m.5.4.2.5.1)
 
-rule_is_items_1 : (a : Found) (vs : List Found) (ts : List Token) (fin : List Found) → Means (nth 0 (operand_rules operand_of.Items)) (a ∷ vs) ts fin → After (part_of.Operand operand_of.Items) (a ∷ vs) ts (λ z. fin ≡ z)
+rule_is_items_1 : (a : Found) (vs : List Found) (ts : List Terminal) (fin : List Found) → Means (nth 0 (operand_rules operand_of.Items)) (a ∷ vs) ts fin → After (part_of.Operand operand_of.Items) (a ∷ vs) ts (λ z. fin ≡ z)
 rule_is_items_1 a vs ts fin m =
     let t0 = m.0 in
     let e : ts ≡ t0 ∷ [] = m.2 ∙ ap (λ z. t0 ∷ z) (m.5.0) in
     (a, subst (λ z. Is (part_of.Operand operand_of.Items) (a ∷ []) z a) (sym e) (is_items_1 t0 m.4), m.5.1)
 
-rule_is_items_2 : (a : Found) (vs : List Found) (ts : List Token) (fin : List Found) → Means (nth 1 (operand_rules operand_of.Items)) (a ∷ vs) ts fin → After (part_of.Operand operand_of.Items) (a ∷ vs) ts (λ z. fin ≡ z)
+rule_is_items_2 : (a : Found) (vs : List Found) (ts : List Terminal) (fin : List Found) → Means (nth 1 (operand_rules operand_of.Items)) (a ∷ vs) ts fin → After (part_of.Operand operand_of.Items) (a ∷ vs) ts (λ z. fin ≡ z)
 rule_is_items_2 a vs ts fin m =
     let u0 = m.0 in
     let v0 = m.4.0 in
@@ -340,13 +340,13 @@ rule_is_items_2 a vs ts fin m =
     let e : ts ≡ u0 ++ u1 = m.2 ∙ ap (λ z. u0 ++ z) (m.4.2.2 ∙ ap (λ z. u1 ++ z) m.4.2.4.2.0 ∙ append-nil u1) in
     (v1, subst (λ z. Is (part_of.Operand operand_of.Items) (a ∷ []) z v1) (sym e) (is_items_2 u0 v0 u1 v1 m.4.1 m.4.2.4.1), m.4.2.4.2.1)
 
-rule_is_items_rest_1 : (a : Found) (vs : List Found) (ts : List Token) (fin : List Found) → Means (nth 0 (operand_rules operand_of.ItemsRest)) (a ∷ vs) ts fin → After (part_of.Operand operand_of.ItemsRest) (a ∷ vs) ts (λ z. fin ≡ z)
+rule_is_items_rest_1 : (a : Found) (vs : List Found) (ts : List Terminal) (fin : List Found) → Means (nth 0 (operand_rules operand_of.ItemsRest)) (a ∷ vs) ts fin → After (part_of.Operand operand_of.ItemsRest) (a ∷ vs) ts (λ z. fin ≡ z)
 rule_is_items_rest_1 a vs ts fin m =
     let t0 = m.0 in
     let e : ts ≡ t0 ∷ [] = m.2 ∙ ap (λ z. t0 ∷ z) (m.5.0) in
     (a, subst (λ z. Is (part_of.Operand operand_of.ItemsRest) (a ∷ []) z a) (sym e) (is_items_rest_1 t0 m.4), m.5.1)
 
-rule_is_items_rest_2 : (a : Found) (vs : List Found) (ts : List Token) (fin : List Found) → Means (nth 1 (operand_rules operand_of.ItemsRest)) (a ∷ vs) ts fin → After (part_of.Operand operand_of.ItemsRest) (a ∷ vs) ts (λ z. fin ≡ z)
+rule_is_items_rest_2 : (a : Found) (vs : List Found) (ts : List Terminal) (fin : List Found) → Means (nth 1 (operand_rules operand_of.ItemsRest)) (a ∷ vs) ts fin → After (part_of.Operand operand_of.ItemsRest) (a ∷ vs) ts (λ z. fin ≡ z)
 rule_is_items_rest_2 a vs ts fin m =
     let t0 = m.0 in
     let u0 = m.5.0 in
@@ -354,13 +354,13 @@ rule_is_items_rest_2 a vs ts fin m =
     let e : ts ≡ t0 ∷ u0 = m.2 ∙ ap (λ z. t0 ∷ z) (m.5.2 ∙ ap (λ z. u0 ++ z) m.5.4.2.0 ∙ append-nil u0) in
     (v0, subst (λ z. Is (part_of.Operand operand_of.ItemsRest) (a ∷ []) z v0) (sym e) (is_items_rest_2 t0 u0 v0 m.4 m.5.4.1), m.5.4.2.1)
 
-rule_is_arguments_1 : (a : Found) (vs : List Found) (ts : List Token) (fin : List Found) → Means (nth 0 (operand_rules operand_of.Arguments)) (a ∷ vs) ts fin → After (part_of.Operand operand_of.Arguments) (a ∷ vs) ts (λ z. fin ≡ z)
+rule_is_arguments_1 : (a : Found) (vs : List Found) (ts : List Terminal) (fin : List Found) → Means (nth 0 (operand_rules operand_of.Arguments)) (a ∷ vs) ts fin → After (part_of.Operand operand_of.Arguments) (a ∷ vs) ts (λ z. fin ≡ z)
 rule_is_arguments_1 a vs ts fin m =
     let t0 = m.0 in
     let e : ts ≡ t0 ∷ [] = m.2 ∙ ap (λ z. t0 ∷ z) (m.5.0) in
     (a, subst (λ z. Is (part_of.Operand operand_of.Arguments) (a ∷ []) z a) (sym e) (is_arguments_1 t0 m.4), m.5.1)
 
-rule_is_arguments_2 : (a : Found) (vs : List Found) (ts : List Token) (fin : List Found) → Means (nth 1 (operand_rules operand_of.Arguments)) (a ∷ vs) ts fin → After (part_of.Operand operand_of.Arguments) (a ∷ vs) ts (λ z. fin ≡ z)
+rule_is_arguments_2 : (a : Found) (vs : List Found) (ts : List Terminal) (fin : List Found) → Means (nth 1 (operand_rules operand_of.Arguments)) (a ∷ vs) ts fin → After (part_of.Operand operand_of.Arguments) (a ∷ vs) ts (λ z. fin ≡ z)
 rule_is_arguments_2 a vs ts fin m =
     let u0 = m.0 in
     let v0 = m.4.0 in
@@ -369,13 +369,13 @@ rule_is_arguments_2 a vs ts fin m =
     let e : ts ≡ u0 ++ u1 = m.2 ∙ ap (λ z. u0 ++ z) (m.4.2.2 ∙ ap (λ z. u1 ++ z) m.4.2.4.2.0 ∙ append-nil u1) in
     (v1, subst (λ z. Is (part_of.Operand operand_of.Arguments) (a ∷ []) z v1) (sym e) (is_arguments_2 u0 v0 u1 v1 m.4.1 m.4.2.4.1), m.4.2.4.2.1)
 
-rule_is_arguments_rest_1 : (a : Found) (vs : List Found) (ts : List Token) (fin : List Found) → Means (nth 0 (operand_rules operand_of.ArgumentsRest)) (a ∷ vs) ts fin → After (part_of.Operand operand_of.ArgumentsRest) (a ∷ vs) ts (λ z. fin ≡ z)
+rule_is_arguments_rest_1 : (a : Found) (vs : List Found) (ts : List Terminal) (fin : List Found) → Means (nth 0 (operand_rules operand_of.ArgumentsRest)) (a ∷ vs) ts fin → After (part_of.Operand operand_of.ArgumentsRest) (a ∷ vs) ts (λ z. fin ≡ z)
 rule_is_arguments_rest_1 a vs ts fin m =
     let t0 = m.0 in
     let e : ts ≡ t0 ∷ [] = m.2 ∙ ap (λ z. t0 ∷ z) (m.5.0) in
     (a, subst (λ z. Is (part_of.Operand operand_of.ArgumentsRest) (a ∷ []) z a) (sym e) (is_arguments_rest_1 t0 m.4), m.5.1)
 
-rule_is_arguments_rest_2 : (a : Found) (vs : List Found) (ts : List Token) (fin : List Found) → Means (nth 1 (operand_rules operand_of.ArgumentsRest)) (a ∷ vs) ts fin → After (part_of.Operand operand_of.ArgumentsRest) (a ∷ vs) ts (λ z. fin ≡ z)
+rule_is_arguments_rest_2 : (a : Found) (vs : List Found) (ts : List Terminal) (fin : List Found) → Means (nth 1 (operand_rules operand_of.ArgumentsRest)) (a ∷ vs) ts fin → After (part_of.Operand operand_of.ArgumentsRest) (a ∷ vs) ts (λ z. fin ≡ z)
 rule_is_arguments_rest_2 a vs ts fin m =
     let t0 = m.0 in
     let u0 = m.5.0 in
@@ -383,13 +383,13 @@ rule_is_arguments_rest_2 a vs ts fin m =
     let e : ts ≡ t0 ∷ u0 = m.2 ∙ ap (λ z. t0 ∷ z) (m.5.2 ∙ ap (λ z. u0 ++ z) m.5.4.2.0 ∙ append-nil u0) in
     (v0, subst (λ z. Is (part_of.Operand operand_of.ArgumentsRest) (a ∷ []) z v0) (sym e) (is_arguments_rest_2 t0 u0 v0 m.4 m.5.4.1), m.5.4.2.1)
 
-rule_is_constructor_arguments_1 : (a : Found) (vs : List Found) (ts : List Token) (fin : List Found) → Means (nth 0 (operand_rules operand_of.ConstructorArguments)) (a ∷ vs) ts fin → After (part_of.Operand operand_of.ConstructorArguments) (a ∷ vs) ts (λ z. fin ≡ z)
+rule_is_constructor_arguments_1 : (a : Found) (vs : List Found) (ts : List Terminal) (fin : List Found) → Means (nth 0 (operand_rules operand_of.ConstructorArguments)) (a ∷ vs) ts fin → After (part_of.Operand operand_of.ConstructorArguments) (a ∷ vs) ts (λ z. fin ≡ z)
 rule_is_constructor_arguments_1 a vs ts fin m =
     let t0 = m.0 in
     let e : ts ≡ t0 ∷ [] = m.2 ∙ ap (λ z. t0 ∷ z) (m.5.0) in
     (a, subst (λ z. Is (part_of.Operand operand_of.ConstructorArguments) (a ∷ []) z a) (sym e) (is_constructor_arguments_1 t0 m.4), m.5.1)
 
-rule_is_constructor_arguments_2 : (a : Found) (vs : List Found) (ts : List Token) (fin : List Found) → Means (nth 1 (operand_rules operand_of.ConstructorArguments)) (a ∷ vs) ts fin → After (part_of.Operand operand_of.ConstructorArguments) (a ∷ vs) ts (λ z. fin ≡ z)
+rule_is_constructor_arguments_2 : (a : Found) (vs : List Found) (ts : List Terminal) (fin : List Found) → Means (nth 1 (operand_rules operand_of.ConstructorArguments)) (a ∷ vs) ts fin → After (part_of.Operand operand_of.ConstructorArguments) (a ∷ vs) ts (λ z. fin ≡ z)
 rule_is_constructor_arguments_2 a vs ts fin m =
     let t0 = m.0 in
     let u0 = m.5.0 in
@@ -397,7 +397,7 @@ rule_is_constructor_arguments_2 a vs ts fin m =
     let e : ts ≡ t0 ∷ u0 = m.2 ∙ ap (λ z. t0 ∷ z) (m.5.2 ∙ ap (λ z. u0 ++ z) m.5.4.2.0 ∙ append-nil u0) in
     (v0, subst (λ z. Is (part_of.Operand operand_of.ConstructorArguments) (a ∷ []) z v0) (sym e) (is_constructor_arguments_2 t0 u0 v0 m.4 m.5.4.1), m.5.4.2.1)
 
-rule_is_constructor_arguments_3 : (a : Found) (vs : List Found) (ts : List Token) (fin : List Found) → Means (nth 2 (operand_rules operand_of.ConstructorArguments)) (a ∷ vs) ts fin → After (part_of.Operand operand_of.ConstructorArguments) (a ∷ vs) ts (λ z. fin ≡ z)
+rule_is_constructor_arguments_3 : (a : Found) (vs : List Found) (ts : List Terminal) (fin : List Found) → Means (nth 2 (operand_rules operand_of.ConstructorArguments)) (a ∷ vs) ts fin → After (part_of.Operand operand_of.ConstructorArguments) (a ∷ vs) ts (λ z. fin ≡ z)
 rule_is_constructor_arguments_3 a vs ts fin m =
     let u0 = m.0 in
     let v0 = m.4.0 in
@@ -406,7 +406,7 @@ rule_is_constructor_arguments_3 a vs ts fin m =
     let e : ts ≡ u0 ++ u1 = m.2 ∙ ap (λ z. u0 ++ z) (m.4.2.2 ∙ ap (λ z. u1 ++ z) m.4.2.4.2.0 ∙ append-nil u1) in
     (v1, subst (λ z. Is (part_of.Operand operand_of.ConstructorArguments) (a ∷ []) z v1) (sym e) (is_constructor_arguments_3 u0 v0 u1 v1 m.4.1 m.4.2.4.1), m.4.2.4.2.1)
 
-rule_is_named_or_not_1 : (a : Found) (b : Found) (vs : List Found) (ts : List Token) (fin : List Found) → Means (nth 0 (operand_rules operand_of.NamedOrNot)) (b ∷ a ∷ vs) ts fin → After (part_of.Operand operand_of.NamedOrNot) (b ∷ a ∷ vs) ts (λ z. fin ≡ z)
+rule_is_named_or_not_1 : (a : Found) (b : Found) (vs : List Found) (ts : List Terminal) (fin : List Found) → Means (nth 0 (operand_rules operand_of.NamedOrNot)) (b ∷ a ∷ vs) ts fin → After (part_of.Operand operand_of.NamedOrNot) (b ∷ a ∷ vs) ts (λ z. fin ≡ z)
 rule_is_named_or_not_1 a b vs ts fin m =
     let t0 = m.0 in
     let u0 = m.5.0 in
@@ -416,7 +416,7 @@ rule_is_named_or_not_1 a b vs ts fin m =
     let e : ts ≡ t0 ∷ (u0 ++ u1) = m.2 ∙ ap (λ z. t0 ∷ z) (m.5.2 ∙ ap (λ z. u0 ++ z) (m.5.4.2.2 ∙ ap (λ z. u1 ++ z) m.5.4.2.4.2.0 ∙ append-nil u1)) in
     (v1, subst (λ z. Is (part_of.Operand operand_of.NamedOrNot) (b ∷ a ∷ []) z v1) (sym e) (is_named_or_not_1 t0 u0 v0 u1 v1 m.4 m.5.4.1 m.5.4.2.4.1), m.5.4.2.4.2.1)
 
-rule_is_named_or_not_2 : (a : Found) (b : Found) (vs : List Found) (ts : List Token) (fin : List Found) → Means (nth 1 (operand_rules operand_of.NamedOrNot)) (b ∷ a ∷ vs) ts fin → After (part_of.Operand operand_of.NamedOrNot) (b ∷ a ∷ vs) ts (λ z. fin ≡ z)
+rule_is_named_or_not_2 : (a : Found) (b : Found) (vs : List Found) (ts : List Terminal) (fin : List Found) → Means (nth 1 (operand_rules operand_of.NamedOrNot)) (b ∷ a ∷ vs) ts fin → After (part_of.Operand operand_of.NamedOrNot) (b ∷ a ∷ vs) ts (λ z. fin ≡ z)
 rule_is_named_or_not_2 a b vs ts fin m =
     let u0 = m.0 in
     let v0 = m.4.0 in
@@ -429,13 +429,13 @@ rule_is_named_or_not_2 a b vs ts fin m =
     let e : ts ≡ u0 ++ (u1 ++ (u2 ++ u3)) = m.2 ∙ ap (λ z. u0 ++ z) (m.4.2.2 ∙ ap (λ z. u1 ++ z) (m.4.2.4.2.2 ∙ ap (λ z. u2 ++ z) (m.4.2.4.2.4.2.2 ∙ ap (λ z. u3 ++ z) m.4.2.4.2.4.2.4.2.0 ∙ append-nil u3))) in
     (v3, subst (λ z. Is (part_of.Operand operand_of.NamedOrNot) (b ∷ a ∷ []) z v3) (sym e) (is_named_or_not_2 u0 v0 u1 v1 u2 v2 u3 v3 m.4.1 m.4.2.4.1 m.4.2.4.2.4.1 m.4.2.4.2.4.2.4.1), m.4.2.4.2.4.2.4.2.1)
 
-rule_is_named_rest_1 : (a : Found) (vs : List Found) (ts : List Token) (fin : List Found) → Means (nth 0 (operand_rules operand_of.NamedRest)) (a ∷ vs) ts fin → After (part_of.Operand operand_of.NamedRest) (a ∷ vs) ts (λ z. fin ≡ z)
+rule_is_named_rest_1 : (a : Found) (vs : List Found) (ts : List Terminal) (fin : List Found) → Means (nth 0 (operand_rules operand_of.NamedRest)) (a ∷ vs) ts fin → After (part_of.Operand operand_of.NamedRest) (a ∷ vs) ts (λ z. fin ≡ z)
 rule_is_named_rest_1 a vs ts fin m =
     let t0 = m.0 in
     let e : ts ≡ t0 ∷ [] = m.2 ∙ ap (λ z. t0 ∷ z) (m.5.0) in
     (a, subst (λ z. Is (part_of.Operand operand_of.NamedRest) (a ∷ []) z a) (sym e) (is_named_rest_1 t0 m.4), m.5.1)
 
-rule_is_named_rest_2 : (a : Found) (vs : List Found) (ts : List Token) (fin : List Found) → Means (nth 1 (operand_rules operand_of.NamedRest)) (a ∷ vs) ts fin → After (part_of.Operand operand_of.NamedRest) (a ∷ vs) ts (λ z. fin ≡ z)
+rule_is_named_rest_2 : (a : Found) (vs : List Found) (ts : List Terminal) (fin : List Found) → Means (nth 1 (operand_rules operand_of.NamedRest)) (a ∷ vs) ts fin → After (part_of.Operand operand_of.NamedRest) (a ∷ vs) ts (λ z. fin ≡ z)
 rule_is_named_rest_2 a vs ts fin m =
     let t0 = m.0 in
     let u0 = m.5.0 in
@@ -443,13 +443,13 @@ rule_is_named_rest_2 a vs ts fin m =
     let e : ts ≡ t0 ∷ u0 = m.2 ∙ ap (λ z. t0 ∷ z) (m.5.2 ∙ ap (λ z. u0 ++ z) m.5.4.2.0 ∙ append-nil u0) in
     (v0, subst (λ z. Is (part_of.Operand operand_of.NamedRest) (a ∷ []) z v0) (sym e) (is_named_rest_2 t0 u0 v0 m.4 m.5.4.1), m.5.4.2.1)
 
-rule_is_named_more_1 : (a : Found) (vs : List Found) (ts : List Token) (fin : List Found) → Means (nth 0 (operand_rules operand_of.NamedMore)) (a ∷ vs) ts fin → After (part_of.Operand operand_of.NamedMore) (a ∷ vs) ts (λ z. fin ≡ z)
+rule_is_named_more_1 : (a : Found) (vs : List Found) (ts : List Terminal) (fin : List Found) → Means (nth 0 (operand_rules operand_of.NamedMore)) (a ∷ vs) ts fin → After (part_of.Operand operand_of.NamedMore) (a ∷ vs) ts (λ z. fin ≡ z)
 rule_is_named_more_1 a vs ts fin m =
     let t0 = m.0 in
     let e : ts ≡ t0 ∷ [] = m.2 ∙ ap (λ z. t0 ∷ z) (m.5.0) in
     (a, subst (λ z. Is (part_of.Operand operand_of.NamedMore) (a ∷ []) z a) (sym e) (is_named_more_1 t0 m.4), m.5.1)
 
-rule_is_named_more_2 : (a : Found) (vs : List Found) (ts : List Token) (fin : List Found) → Means (nth 1 (operand_rules operand_of.NamedMore)) (a ∷ vs) ts fin → After (part_of.Operand operand_of.NamedMore) (a ∷ vs) ts (λ z. fin ≡ z)
+rule_is_named_more_2 : (a : Found) (vs : List Found) (ts : List Terminal) (fin : List Found) → Means (nth 1 (operand_rules operand_of.NamedMore)) (a ∷ vs) ts fin → After (part_of.Operand operand_of.NamedMore) (a ∷ vs) ts (λ z. fin ≡ z)
 rule_is_named_more_2 a vs ts fin m =
     let t0 = m.0 in
     let t1 = m.5.0 in
@@ -460,7 +460,7 @@ rule_is_named_more_2 a vs ts fin m =
     let e : ts ≡ t0 ∷ (t1 ∷ (u0 ++ u1)) = m.2 ∙ ap (λ z. t0 ∷ z) (m.5.2 ∙ ap (λ z. t1 ∷ z) (m.5.5.2 ∙ ap (λ z. u0 ++ z) (m.5.5.4.2.2 ∙ ap (λ z. u1 ++ z) m.5.5.4.2.4.2.0 ∙ append-nil u1))) in
     (v1, subst (λ z. Is (part_of.Operand operand_of.NamedMore) (a ∷ []) z v1) (sym e) (is_named_more_2 t0 t1 u0 v0 u1 v1 m.4 m.5.4 m.5.5.4.1 m.5.5.4.2.4.1), m.5.5.4.2.4.2.1)
 
-pub operand_rule : (n : OperandPart) (r : List Symbol) (vs : List Found) (ts : List Token) (fin : List Found) → Among r (operand_rules n) → Means r vs ts fin → After (part_of.Operand n) vs ts (λ z. fin ≡ z)
+pub operand_rule : (n : OperandPart) (r : List Symbol) (vs : List Found) (ts : List Terminal) (fin : List Found) → Among r (operand_rules n) → Means r vs ts fin → After (part_of.Operand n) vs ts (λ z. fin ≡ z)
 operand_rule operand_of.Operand r vs ts fin (inl e) m = rule_is_operand_1 vs ts fin (subst (λ z. Means z vs ts fin) e m)
 operand_rule operand_of.Operand r vs ts fin (inr (inl e)) m = rule_is_operand_2 vs ts fin (subst (λ z. Means z vs ts fin) e m)
 operand_rule operand_of.Operand r vs ts fin (inr (inr e)) m = elim e [ ]

@@ -6,11 +6,11 @@ use Rattle.ink_grammar.specs.declared.token.Shape.{Shape}
 use Rattle.ink_grammar.specs.declared.token.Shape.TheVariants as shape
 use Rattle.ink_grammar.specs.declared.symbol.Wanted.{Wanted}
 use Rattle.ink_grammar.specs.declared.symbol.Wanted.TheVariants as wanted
-use Rattle.ink_grammar.specs.declared.token.Token.{Token}
+use Rattle.ink_grammar.specs.declared.token.Terminal.{Terminal}
 use Rattle.ink_grammar.specs.declared.symbol.Line.{Line}
 use Rattle.ink_grammar.specs.declared.symbol.Line.TheVariants as line
-use Rattle.ink_grammar.specs.declared.symbol.Part.{Part}
-use Rattle.ink_grammar.specs.declared.symbol.Part.TheVariants as part_of
+use Rattle.ink_grammar.specs.declared.symbol.Nonterminal.{Nonterminal}
+use Rattle.ink_grammar.specs.declared.symbol.Nonterminal.TheVariants as part_of
 use Rattle.ink_grammar.specs.declared.symbol.ModulePart.{ModulePart}
 use Rattle.ink_grammar.specs.declared.symbol.MethodPart.{MethodPart}
 use Rattle.ink_grammar.specs.declared.symbol.TypePart.{TypePart}
@@ -104,7 +104,7 @@ pattern_short pattern_of.ConstructorPatternRest = 1
 pattern_short _ = 0
 
 -- which production of the part is short
-abbrev short : Part → ℕ
+abbrev short : Nonterminal → ℕ
 short (part_of.Module n) = module_short n
 short (part_of.Method n) = method_short n
 short (part_of.Type n) = type_short n
@@ -224,7 +224,7 @@ pattern_short_among pattern_of.FieldPattern = inl refl
 pattern_short_among pattern_of.FieldPatternsRest = inl refl
 pattern_short_among pattern_of.FieldPatternsMore = inl refl
 
-short_among : (n : Part) → Among (nth (short n) (rules n)) (rules n)
+short_among : (n : Nonterminal) → Among (nth (short n) (rules n)) (rules n)
 short_among (part_of.Module n) = module_short_among n
 short_among (part_of.Method n) = method_short_among n
 short_among (part_of.Type n) = type_short_among n
@@ -266,21 +266,21 @@ next_wants (of.Place w ∷ r) = false
 next_wants (of.Part l n ∷ r) = wants l
 next_wants (of.Do a ∷ r) = next_wants r
 
-abbrev opened : Line → List Token → Bool
+abbrev opened : Line → List Terminal → Bool
 opened line.Any ts = true
 opened line.Same [] = false
 opened line.Same (t ∷ ts) = not t.new_line
 opened line.Fresh [] = false
 opened line.Fresh (t ∷ ts) = t.new_line
 
-opened_opens : (l : Line) (ts : List Token) → opened l ts ≡ true → Opens l ts
+opened_opens : (l : Line) (ts : List Terminal) → opened l ts ≡ true → Opens l ts
 opened_opens line.Any ts e = tt
 opened_opens line.Same [] e = cc
 opened_opens line.Same (t ∷ ts) e = not_true t.new_line e
 opened_opens line.Fresh [] e = cc
 opened_opens line.Fresh (t ∷ ts) e = e
 
-abbrev pub made : Shape → Bool → Token
+abbrev pub made : Shape → Bool → Terminal
 made x new_line = record { shape = x; start = 0; end = 0; new_line = new_line }
 
 -- a shape that is wanted
@@ -309,7 +309,7 @@ is_sample wanted.LoopJump = refl
 is_sample wanted.LinkName = refl
 
 -- tokens for the symbols, at most so deep
-abbrev sample : ℕ → Bool → List Symbol → Option (List Token)
+abbrev sample : ℕ → Bool → List Symbol → Option (List Terminal)
 sample zero b r = None
 sample (suc f) b [] = Some []
 sample (suc f) b (of.Token l w ∷ r) = only_if (stands l b) (and_then (sample f (next_wants r) r) (λ ts. Some (made (sample_of w) b ∷ ts)))
@@ -320,7 +320,7 @@ sample (suc f) b (of.Do a ∷ r) = sample f b r
 some_same : {A : Type 0} {x y : A} → Some x ≡ Some y → x ≡ y
 some_same e = cc
 
-sample_reads : (f : ℕ) (b : Bool) (r : List Symbol) (ts : List Token) → sample f b r ≡ Some ts → (vs : List Found) → (fin : List Found) × Reads r vs ts fin
+sample_reads : (f : ℕ) (b : Bool) (r : List Symbol) (ts : List Terminal) → sample f b r ≡ Some ts → (vs : List Found) → (fin : List Found) × Reads r vs ts fin
 sample_reads zero b r ts e vs = cc
 sample_reads (suc f) b [] ts e vs = (vs, subst (λ x. Reads [] vs x vs) (some_same e) done)
 sample_reads (suc f) b (of.Token l w ∷ r) ts e vs =
@@ -339,18 +339,18 @@ sample_reads (suc f) b (of.Part l n ∷ r) ts e vs =
 sample_reads (suc f) b (of.Do a ∷ r) ts e vs =
     let d = sample_reads f b r ts e (act a vs) in (d.0, make d.1)
 
-abbrev is_made : Option (List Token) → Bool
+abbrev is_made : Option (List Terminal) → Bool
 is_made None = false
 is_made (Some ts) = true
 
-what_is_made : (o : Option (List Token)) → is_made o ≡ true → (ts : List Token) × (o ≡ Some ts)
+what_is_made : (o : Option (List Terminal)) → is_made o ≡ true → (ts : List Terminal) × (o ≡ Some ts)
 what_is_made None e = cc
 what_is_made (Some ts) e = (ts, refl)
 
-sampled : Line → Part → Bool
+sampled : Line → Nonterminal → Bool
 sampled l n = is_made (sample 20 (wants l) (of.Part l n ∷ []))
 
-abbrev has_sample : Part → Bool
+abbrev has_sample : Nonterminal → Bool
 has_sample n = sampled line.Any n && implies (not (may_be_empty n)) (sampled line.Same n && sampled line.Fresh n)
 
 module_have : (n : ModulePart) → has_sample (part_of.Module n) ≡ true
@@ -471,7 +471,7 @@ pattern_have pattern_of.FieldPattern = refl
 pattern_have pattern_of.FieldPatternsRest = refl
 pattern_have pattern_of.FieldPatternsMore = refl
 
-all_have : (n : Part) → has_sample n ≡ true
+all_have : (n : Nonterminal) → has_sample n ≡ true
 all_have (part_of.Module n) = module_have n
 all_have (part_of.Method n) = method_have n
 all_have (part_of.Type n) = type_have n
@@ -479,17 +479,17 @@ all_have (part_of.Statement n) = statement_have n
 all_have (part_of.Operand n) = operand_have n
 all_have (part_of.Pattern n) = pattern_have n
 
-part_sampled : (l : Line) (n : Part) → strict l n ≡ true → sampled l n ≡ true
+part_sampled : (l : Line) (n : Nonterminal) → strict l n ≡ true → sampled l n ≡ true
 part_sampled line.Any n e = and_left (sampled line.Any n) _ (all_have n)
 part_sampled line.Same n e = and_left (sampled line.Same n) (sampled line.Fresh n) (implied (not (may_be_empty n)) (sampled line.Same n && sampled line.Fresh n) (and_right (sampled line.Any n) _ (all_have n)) e)
 part_sampled line.Fresh n e = and_right (sampled line.Same n) (sampled line.Fresh n) (implied (not (may_be_empty n)) (sampled line.Same n && sampled line.Fresh n) (and_right (sampled line.Any n) _ (all_have n)) e)
 
-part_made : (l : Line) (n : Part) → strict l n ≡ true → (ts : List Token) × (sample 20 (wants l) (of.Part l n ∷ []) ≡ Some ts)
+part_made : (l : Line) (n : Nonterminal) → strict l n ≡ true → (ts : List Terminal) × (sample 20 (wants l) (of.Part l n ∷ []) ≡ Some ts)
 unfolding sampled
 part_made l n e = what_is_made (sample 20 (wants l) (of.Part l n ∷ [])) (part_sampled l n e)
 
 pub record Readable (r : List Symbol) (vs : List Found) : Type 0 where
-  pub tokens : List Token
+  pub tokens : List Terminal
   pub fin : List Found
   pub reads : Reads r vs tokens fin
 

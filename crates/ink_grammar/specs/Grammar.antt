@@ -9,8 +9,8 @@ use Rattle.ink_grammar.specs.declared.token.Shape.TheVariants as shape
 use Rattle.ink_grammar.specs.declared.symbol.Line.TheVariants as line
 use Rattle.ink_grammar.specs.declared.symbol.Wanted.{Wanted}
 use Rattle.ink_grammar.specs.declared.symbol.Wanted.TheVariants as wanted
-use Rattle.ink_grammar.specs.declared.symbol.Part.{Part}
-use Rattle.ink_grammar.specs.declared.symbol.Part.TheVariants as part
+use Rattle.ink_grammar.specs.declared.symbol.Nonterminal.{Nonterminal}
+use Rattle.ink_grammar.specs.declared.symbol.Nonterminal.TheVariants as part
 use Rattle.ink_grammar.specs.declared.symbol.ModulePart.{ModulePart}
 use Rattle.ink_grammar.specs.declared.symbol.ModulePart.TheVariants as module_of
 use Rattle.ink_grammar.specs.declared.symbol.MethodPart.{MethodPart}
@@ -421,7 +421,7 @@ pattern_rules pattern_of.FieldPatternsMore =
     (pattern_part pattern_of.FieldPattern ∷ two two_of.More ∷ pattern_part pattern_of.FieldPatternsRest ∷ []) ∷ []
 
 -- the productions of each part
-abbrev pub rules : Part → List (List Symbol)
+abbrev pub rules : Nonterminal → List (List Symbol)
 rules (part.Module n) = module_rules n
 rules (part.Method n) = method_rules n
 rules (part.Type n) = type_rules n
@@ -548,7 +548,7 @@ pattern_may_be_empty pattern_of.FieldPatternsRest = false
 pattern_may_be_empty pattern_of.FieldPatternsMore = false
 
 -- whether a part may be no token at all
-abbrev pub may_be_empty : Part → Bool
+abbrev pub may_be_empty : Nonterminal → Bool
 may_be_empty (part.Module n) = module_may_be_empty n
 may_be_empty (part.Method n) = method_may_be_empty n
 may_be_empty (part.Type n) = type_may_be_empty n
@@ -711,7 +711,7 @@ pattern_begins pattern_of.FieldPatternsRest x new_line = same (shape.Mark mark.R
 pattern_begins pattern_of.FieldPatternsMore x new_line = same (shape.Mark mark.RightBrace) x || same shape.Field x
 
 -- whether a part may begin with a token of this shape
-abbrev pub begins : Part → Shape → Bool → Bool
+abbrev pub begins : Nonterminal → Shape → Bool → Bool
 begins (part.Module n) x new_line = module_begins n x new_line
 begins (part.Method n) x new_line = method_begins n x new_line
 begins (part.Type n) x new_line = type_begins n x new_line

@@ -2,7 +2,7 @@
 use Rattle.std.specs.Prelude.{ℕ, Bool, true, false, List, [], ◌∷◌}
 use Rattle.ink_grammar.specs.declared.token.Shape.{Shape}
 use Rattle.ink_grammar.specs.declared.token.Shape.TheVariants as shape
-use Rattle.ink_grammar.specs.declared.token.Token.{Token}
+use Rattle.ink_grammar.specs.declared.token.Terminal.{Terminal}
 use Rattle.ink_grammar.specs.declared.symbol.Wanted.{Wanted}
 use Rattle.ink_grammar.specs.declared.symbol.Wanted.TheVariants as wanted
 use Rattle.ink_grammar.specs.declared.symbol.Action.{Action}
@@ -17,7 +17,7 @@ use Rattle.ink_grammar.specs.declared.tree.FiveChildren.{FiveChildren}
 -- Nothing, a token, a list without items, or a node that begins at a byte and has children.
 pub data Tree : Type 0 where
   Missing : Tree
-  Leaf : Token → Tree
+  Leaf : Terminal → Tree
   Empty : Tree
   One : OneChild → ℕ → Tree → Tree
   Two : TwoChildren → ℕ → Tree → Tree → Tree
@@ -67,12 +67,12 @@ is_place_form two_of.Member = true
 is_place_form _ = false
 
 -- what is kept of a token
-abbrev pub keep : Wanted → Token → List Found → List Found
+abbrev pub keep : Wanted → Terminal → List Found → List Found
 keep (wanted.Mark s) t vs = vs
 keep _ t vs = record { tree = Leaf t; start = t.start; is_place = is_place_word t.shape } ∷ vs
 
 -- what a token that is kept says
-abbrev pub leaf : Token → Found
+abbrev pub leaf : Terminal → Found
 leaf t = record { tree = Leaf t; start = t.start; is_place = is_place_word t.shape }
 
 -- a list without items

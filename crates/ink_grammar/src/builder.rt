@@ -3,7 +3,7 @@
 ghost use Rattle.std.specs.Prelude.{◌≡◌, ◌≤◌, ◌∷◌, [], All, false, length, OnOk};
 
 use crate::symbol::{Action, Wanted};
-use crate::token::Token;
+use crate::token::Terminal;
 use crate::tree::{
     FiveChildren, FourChildren, Module, Node, OneChild, ThreeChildren, TwoChildren, is_place_form,
     is_place_word,
@@ -121,7 +121,7 @@ impl Builder {
     }
 
     /// Keeps what a wanted token says.
-    pub fn keep(&mut self, wanted: Wanted, token: Token) -> Result<(), AllocError>
+    pub fn keep(&mut self, wanted: Wanted, token: Terminal) -> Result<(), AllocError>
         ensures { OnOk result (view.found self.new ≡ spec.keep wanted token (view.found self.old)) }
     {
         match wanted {

@@ -3,48 +3,48 @@
 ghost use Rattle.std.specs.Prelude.{◌≡◌, map};
 ghost use Rattle.ink_grammar.specs.Grammar as spec;
 
-use crate::symbol::{Part, Symbol};
+use crate::symbol::{Nonterminal, Symbol};
 use crate::token::Shape;
 use crate::{methods, modules, operands, patterns, statements, types};
 
 /// Each way to write the part.
-pub fn rules(part: Part) -> &'static [&'static [Symbol]]
+pub fn rules(part: Nonterminal) -> &'static [&'static [Symbol]]
     ensures { map (λ rule. rule.now) result.now ≡ spec.rules part }
 {
     match part {
-        Part::Module(part) => modules::rules(part),
-        Part::Method(part) => methods::rules(part),
-        Part::Type(part) => types::rules(part),
-        Part::Statement(part) => statements::rules(part),
-        Part::Operand(part) => operands::rules(part),
-        Part::Pattern(part) => patterns::rules(part),
+        Nonterminal::Module(part) => modules::rules(part),
+        Nonterminal::Method(part) => methods::rules(part),
+        Nonterminal::Type(part) => types::rules(part),
+        Nonterminal::Statement(part) => statements::rules(part),
+        Nonterminal::Operand(part) => operands::rules(part),
+        Nonterminal::Pattern(part) => patterns::rules(part),
     }
 }
 
 /// Whether the part may be no token at all.
-pub fn may_be_empty(part: Part) -> bool
+pub fn may_be_empty(part: Nonterminal) -> bool
     ensures { result ≡ spec.may_be_empty part }
 {
     match part {
-        Part::Module(part) => modules::may_be_empty(part),
-        Part::Method(part) => methods::may_be_empty(part),
-        Part::Type(part) => types::may_be_empty(part),
-        Part::Statement(part) => statements::may_be_empty(part),
-        Part::Operand(part) => operands::may_be_empty(part),
-        Part::Pattern(part) => patterns::may_be_empty(part),
+        Nonterminal::Module(part) => modules::may_be_empty(part),
+        Nonterminal::Method(part) => methods::may_be_empty(part),
+        Nonterminal::Type(part) => types::may_be_empty(part),
+        Nonterminal::Statement(part) => statements::may_be_empty(part),
+        Nonterminal::Operand(part) => operands::may_be_empty(part),
+        Nonterminal::Pattern(part) => patterns::may_be_empty(part),
     }
 }
 
 /// Whether the part may begin with a token of this shape.
-pub fn begins(part: Part, shape: Shape, new_line: bool) -> bool
+pub fn begins(part: Nonterminal, shape: Shape, new_line: bool) -> bool
     ensures { result ≡ spec.begins part shape new_line }
 {
     match part {
-        Part::Module(part) => modules::begins(part, shape, new_line),
-        Part::Method(part) => methods::begins(part, shape, new_line),
-        Part::Type(part) => types::begins(part, shape, new_line),
-        Part::Statement(part) => statements::begins(part, shape, new_line),
-        Part::Operand(part) => operands::begins(part, shape, new_line),
-        Part::Pattern(part) => patterns::begins(part, shape, new_line),
+        Nonterminal::Module(part) => modules::begins(part, shape, new_line),
+        Nonterminal::Method(part) => methods::begins(part, shape, new_line),
+        Nonterminal::Type(part) => types::begins(part, shape, new_line),
+        Nonterminal::Statement(part) => statements::begins(part, shape, new_line),
+        Nonterminal::Operand(part) => operands::begins(part, shape, new_line),
+        Nonterminal::Pattern(part) => patterns::begins(part, shape, new_line),
     }
 }

@@ -27,5 +27,5 @@ mod tree;
 mod types;
 
 pub use parser::{ParseError, parse};
-pub use token::{Keyword, Mark, Shape, Token};
+pub use token::{Keyword, Mark, Shape, Terminal};
 pub use tree::{FiveChildren, FourChildren, Module, Node, OneChild, ThreeChildren, TwoChildren};

@@ -9,14 +9,14 @@ ghost use Rattle.ink_grammar.specs.Tree.{Tree};
 ghost use Rattle.ink_grammar.specs.Language.{Parses};
 ghost use Rattle.ink_grammar.specs.Faults.{IsFault};
 ghost use Rattle.ink_grammar.specs.Views as view;
-ghost use Rattle.ink_grammar.specs.declared.token.Token.{Token};
+ghost use Rattle.ink_grammar.specs.declared.token.Terminal.{Terminal};
 ghost use Rattle.ink_grammar.specs.declared.parser.ParseError.TheVariants.{Unexpected};
 
 use crate::builder::Builder;
 use crate::grammar::{begins, may_be_empty, rules};
 use crate::stack::Stack;
-use crate::symbol::{Line, ModulePart, Part, Symbol, Wanted, is, stands};
-use crate::token::Token;
+use crate::symbol::{Line, ModulePart, Nonterminal, Symbol, Wanted, is, stands};
+use crate::token::Terminal;
 use crate::tree::Module;
 use std::alloc::{AllocError, Global};
 
@@ -41,7 +41,7 @@ impl From<AllocError> for ParseError {
 }
 
 /// Whether a rule may go on with this token, where none is the end.
-fn fits(rule: &[Symbol], token: Option<Token>) -> bool
+fn fits(rule: &[Symbol], token: Option<Terminal>) -> bool
     ensures { result ≡ machine.fits rule.now token }
 {
     match rule {
@@ -70,7 +70,7 @@ fn fits(rule: &[Symbol], token: Option<Token>) -> bool
 }
 
 /// The first production of the part that may go on with this token.
-fn choose(part: Part, token: Option<Token>) -> Option<&'static [Symbol]>
+fn choose(part: Nonterminal, token: Option<Terminal>) -> Option<&'static [Symbol]>
     ensures some { IfSome result (λ rule. machine.pick (spec.rules part) token ≡ Some rule.now) }
     ensures none { IfNone result (machine.pick (spec.rules part) token ≡ None) }
 {
@@ -83,7 +83,7 @@ fn choose(part: Part, token: Option<Token>) -> Option<&'static [Symbol]>
 }
 
 /// Whether the token, or the end, stands so.
-fn stands_so(line: Line, token: Option<Token>) -> bool
+fn stands_so(line: Line, token: Option<Terminal>) -> bool
     ensures { result ≡ machine.stands_so line token }
 {
     match line {
@@ -95,7 +95,7 @@ fn stands_so(line: Line, token: Option<Token>) -> bool
     }
 }
 
-fn token_at(tokens: &[Token], at: usize) -> Option<Token>
+fn token_at(tokens: &[Terminal], at: usize) -> Option<Terminal>
     ensures { result ≡ machine.token_at tokens.now at }
 {
     match tokens.get(at) {
@@ -105,9 +105,14 @@ fn token_at(tokens: &[Token], at: usize) -> Option<Token>
 }
 
 /// The token, if it is one that is wanted and stands so.
-fn taken(line: Line, wanted: Wanted, token: Option<Token>, at: usize) -> Result<Token, ParseError>
+fn taken(
+    line: Line,
+    wanted: Wanted,
+    token: Option<Terminal>,
+    at: usize,
+) -> Result<Terminal, ParseError>
     ensures taken { IfOk result (λ t. (token ≡ Some t) × (shapes.stands line t.new_line ≡ true) × (shapes.is wanted t.shape ≡ true)) }
-    ensures refused { IfErr result (λ e. (e ≡ Unexpected at) × ((t : Token) → token ≡ Some t → shapes.stands line t.new_line && shapes.is wanted t.shape ≡ false)) }
+    ensures refused { IfErr result (λ e. (e ≡ Unexpected at) × ((t : Terminal) → token ≡ Some t → shapes.stands line t.new_line && shapes.is wanted t.shape ≡ false)) }
 {
     match token {
         Some(token) if stands(line, token.new_line) && is(wanted, token.shape) => Ok(token),
@@ -119,11 +124,11 @@ fn taken(line: Line, wanted: Wanted, token: Option<Token>, at: usize) -> Result<
 fn taken_after(
     is_place: bool,
     wanted: Wanted,
-    token: Option<Token>,
+    token: Option<Terminal>,
     at: usize,
-) -> Result<Token, ParseError>
+) -> Result<Terminal, ParseError>
     ensures taken { IfOk result (λ t. (token ≡ Some t) × (is_place ≡ true) × (t.new_line ≡ false) × (shapes.is wanted t.shape ≡ true)) }
-    ensures refused { IfErr result (λ e. (e ≡ Unexpected at) × ((t : Token) → token ≡ Some t → is_place ≡ true → t.new_line ≡ false → shapes.is wanted t.shape ≡ true → ⊥)) }
+    ensures refused { IfErr result (λ e. (e ≡ Unexpected at) × ((t : Terminal) → token ≡ Some t → is_place ≡ true → t.new_line ≡ false → shapes.is wanted t.shape ≡ true → ⊥)) }
 {
     match token {
         Some(token) if is_place && !token.new_line && is(wanted, token.shape) => Ok(token),
@@ -134,8 +139,8 @@ fn taken_after(
 /// The production by which the part goes on with this token.
 fn expand(
     line: Line,
-    part: Part,
-    token: Option<Token>,
+    part: Nonterminal,
+    token: Option<Terminal>,
     at: usize,
 ) -> Result<&'static [Symbol], ParseError>
     ensures chosen { IfOk result (λ rule. (machine.stands_so line token ≡ true) × (machine.pick (spec.rules part) token ≡ Some rule.now)) }
@@ -151,14 +156,14 @@ fn expand(
 }
 
 /// The module that the tokens are. What no production of the grammar derives is refused.
-pub fn parse(alloc: Global, tokens: &[Token]) -> Result<Module, ParseError>
+pub fn parse(alloc: Global, tokens: &[Terminal]) -> Result<Module, ParseError>
     ensures parsed { IfOk result (λ m. Parses tokens.now (view.tree m)) }
     ensures only { IfOk result (λ m. (t : Tree) → Parses tokens.now t → t ≡ view.tree m) }
     ensures refused { IfErr result (IsFault tokens.now) }
 {
     let mut builder = Builder::new(alloc);
     let mut stack = Stack::new(alloc);
-    stack.push(Symbol::Part(Line::Any, Part::Module(ModulePart::Module)))?;
+    stack.push(Symbol::Part(Line::Any, Nonterminal::Module(ModulePart::Module)))?;
     let mut at = 0;
     while let Some(symbol) = stack.pop() {
         let token = token_at(tokens, at);

@@ -176,7 +176,7 @@ pub enum PatternPart {
 
 /// A part of a module that has productions of its own.
 #[derive(Clone, Copy)]
-pub enum Part {
+pub enum Nonterminal {
     Module(ModulePart),
     Method(MethodPart),
     Type(TypePart),
@@ -211,7 +211,7 @@ pub enum Symbol {
     /// A token directly after a place, on its line.
     Place(Wanted),
     /// A part whose first token stands so.
-    Part(Line, Part),
+    Part(Line, Nonterminal),
     Do(Action),
 }
 

@@ -8,15 +8,15 @@ use crate::shape::{
     OR, PLUS, PUB, QUOTE, RECOVER, REF, RETURN, RIGHT_BRACE, RIGHT_BRACKET, RIGHT_PAREN, SELF,
     STATIC, SWAP, TEXT_PART, THROW, TRAIT, TRUE, TRY, TYPE, UNDERSCORE, UNI, WHILE,
 };
-use crate::token::{Shape, Token};
+use crate::token::{Shape, Terminal};
 use crate::tree::{Node, ThreeChildren};
 use std::alloc::Global;
 
 /// What stands for a module that is parsed.
 const PARSED: Result<usize, ParseError> = Ok(1000);
 
-fn push(tokens: &mut Vec<Token>, shape: Shape, new_line: bool) -> Result<(), ParseError> {
-    let token = Token {
+fn push(tokens: &mut Vec<Terminal>, shape: Shape, new_line: bool) -> Result<(), ParseError> {
+    let token = Terminal {
         shape,
         start: 0,
         end: 0,
@@ -28,7 +28,7 @@ fn push(tokens: &mut Vec<Token>, shape: Shape, new_line: bool) -> Result<(), Par
     Ok(())
 }
 
-fn push_line(tokens: &mut Vec<Token>, line: &[Shape]) -> Result<(), ParseError> {
+fn push_line(tokens: &mut Vec<Terminal>, line: &[Shape]) -> Result<(), ParseError> {
     let mut new_line = tokens.len() > 0;
     for shape in line {
         push(tokens, *shape, new_line)?;
@@ -472,7 +472,7 @@ fn associates_to_the_left(rt: HostRuntime) {
     );
 }
 
-fn push_many(tokens: &mut Vec<Token>, shape: Shape, count: usize) -> Result<(), ParseError> {
+fn push_many(tokens: &mut Vec<Terminal>, shape: Shape, count: usize) -> Result<(), ParseError> {
     for _ in 0..count {
         push(tokens, shape, false)?;
     }

@@ -99,7 +99,7 @@ pub enum Shape {
 
 /// A token: its shape and the bytes of the source that it takes, from `start` to before `end`, counted from 0.
 #[derive(Clone, Copy, Debug, PartialEq, Eq)]
-pub struct Token {
+pub struct Terminal {
     pub shape: Shape,
     pub start: u32,
     pub end: u32,

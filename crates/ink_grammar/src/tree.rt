@@ -3,7 +3,7 @@
 ghost use Rattle.std.specs.Prelude.{◌≡◌};
 ghost use Rattle.ink_grammar.specs.Tree as spec;
 
-use crate::token::{Shape, Token};
+use crate::token::{Shape, Terminal};
 
 /// What a node with one child is.
 #[derive(Clone, Copy, PartialEq, Eq)]
@@ -129,7 +129,7 @@ pub enum FiveChildren {
 #[derive(Clone, Copy, PartialEq, Eq)]
 pub enum Node {
     /// A token that is kept.
-    Leaf(Token),
+    Leaf(Terminal),
     /// A list without items.
     Empty,
     One(OneChild, u32, u32),

@@ -43,7 +43,7 @@ fn done(proc: &mut Proc, code: &Code) -> Result<(), Wrong>
     ensures { Leaves (after_done code.now proc.old.pending (state_of proc.old)) result (state_of proc.new) }
 {
     let Some((next, _)) = current(code, &proc.frames) else {
-        return Err(Wrong::Place);
+        return Err(Wrong::Absent);
     };
     proc.pending.pop();
     if proc.pending.first().is_none() {
@@ -100,11 +100,11 @@ fn got(proc: &mut Proc, code: &Code, parcel: Parcel) -> Result<(), AnswerFault>
         Ok(values) => values,
     };
     let value = match values.pop() {
-        None => return Err(AnswerFault::Wrong(Wrong::Place)),
+        None => return Err(AnswerFault::Wrong(Wrong::Absent)),
         Some(value) => value,
     };
     if !values.is_empty() {
-        return Err(AnswerFault::Wrong(Wrong::Place));
+        return Err(AnswerFault::Wrong(Wrong::Absent));
     }
     proc.frames.set(*future, Value::Empty);
     proc.frames.set(*to, value);

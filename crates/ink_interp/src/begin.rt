@@ -43,7 +43,7 @@ pub(crate) fn take_message(
     ensures { AnswersReply (after_taken code.now method (parcel_of parcel) (state_of proc.old)) result (OneReply.Message method parcel) (state_of proc.old) (state_of proc.new) }
 {
     let registers = match code.methods.get(u64::from(method)) {
-        None => return Err(AnswerFault::Wrong(Wrong::Place)),
+        None => return Err(AnswerFault::Wrong(Wrong::Absent)),
         Some(called) => called.registers,
     };
     let state = ObjectId {

@@ -115,7 +115,7 @@ pub(crate) fn prim_step(
     ensures { Answers (prim_step code.now limits.now next row to operands.now (state_of proc.old)) result (state_of proc.old) (state_of proc.new) }
 {
     if !proc.frames.has(to) {
-        return Err(StepFault::Wrong(Wrong::Place));
+        return Err(StepFault::Wrong(Wrong::Absent));
     }
     let room = room_of(alloc, proc, operands.len())?;
     let mut values = proc.frames.take_values(room, operands)?;

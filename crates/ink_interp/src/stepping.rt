@@ -27,7 +27,7 @@ fn top_step(
         Some(frame) => (frame.method, frame.place),
     };
     match code.fetch(method, place) {
-        None => Err(StepFault::Wrong(Wrong::Place)),
+        None => Err(StepFault::Wrong(Wrong::Absent)),
         Some(instr) => instr_step(alloc, proc, code, limits, place + 1, instr),
     }
 }

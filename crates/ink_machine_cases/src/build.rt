@@ -36,7 +36,7 @@ pub fn named(serial: u64) -> ObjectId {
 /// The usual limits, but for one.
 pub fn limits_with(limit: Limit, number: u64) -> Result<Limits, BadLimit> {
     let mut numbers = USUAL;
-    numbers[limit.place()] = number;
+    numbers[limit.index()] = number;
     Limits::new(numbers)
 }
 

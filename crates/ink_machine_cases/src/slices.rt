@@ -89,7 +89,7 @@ fn instructions_that_are_wrong(rt: HostRuntime) -> Result<(), Fail> {
         (Instr::Move { to: 2, from: 0 }, Wrong::Empty),
         (Instr::JumpIf { on: 1, place: 0 }, Wrong::Kind),
         (Instr::Tag { to: 3, object: 2 }, Wrong::Object),
-        (Instr::Move { to: 9, from: 1 }, Wrong::Place),
+        (Instr::Move { to: 9, from: 1 }, Wrong::Absent),
     ] {
         assert_eq!(rt; wrong(rt.alloc(), last)?, Some(why));
     }

@@ -65,12 +65,12 @@ unfolding gives_copy
 gives_lent-copy None p = refl
 gives_lent-copy (Some value) p = refl
 
-lends_field : (item : Option Value) (p : Process) → given wrong.Place item (λ value. gives_lent (Some value) p) ≡ after (given wrong.Place item (λ value. Ok (Some (lent value)))) (λ copy. gives_copy copy p)
+lends_field : (item : Option Value) (p : Process) → given wrong.Absent item (λ value. gives_lent (Some value) p) ≡ after (given wrong.Absent item (λ value. Ok (Some (lent value)))) (λ copy. gives_copy copy p)
 unfolding given after gives_copy
 lends_field None p = refl
 lends_field (Some value) p = refl
 
-lends-copy : (held : Bool) (item : Option Value) (p : Process) → lends_value held item p ≡ after (cond held (given wrong.Place item (λ value. Ok (Some (lent value)))) (Ok None)) (λ copy. gives_copy copy p)
+lends-copy : (held : Bool) (item : Option Value) (p : Process) → lends_value held item p ≡ after (cond held (given wrong.Absent item (λ value. Ok (Some (lent value)))) (Ok None)) (λ copy. gives_copy copy p)
 unfolding after gives_copy
 lends-copy true item p = lends_field item p
 lends-copy false item p = refl

@@ -43,9 +43,9 @@ gives_copy (Some value) p = after (after_copy value p.objects) (λ objects. give
 -- a borrow of the value of an Option, where it has one
 unfoldable pub lent_value : Option Object → Result (Option Value) Wrong
 lent_value None = Err wrong.Object
-lent_value (Some found) = if has_value found then given wrong.Place (slice_get found.fields 0) (λ value. Ok (Some (lent value))) else Ok None
+lent_value (Some found) = if has_value found then given wrong.Absent (slice_get found.fields 0) (λ value. Ok (Some (lent value))) else Ok None
 
 -- the value of an Option, which is given up with it
 abbrev pub value_given : Option Object → ObjectId → Process → RowOutcome
 value_given None id p = Err wrong.Object
-value_given (Some found) id p = given wrong.Place (slice_get found.fields 0) (λ item. gives item (with_objects (remove p.objects id) p))
+value_given (Some found) id p = given wrong.Absent (slice_get found.fields 0) (λ item. gives item (with_objects (remove p.objects id) p))

@@ -21,7 +21,7 @@ pub record Received : Type 0 where
 
 -- what the receiver among the values of a row stands for, which is a borrow of an object of that type
 unfoldable pub received : ℕ → List Value → Objects → Result Received Wrong
-received kind [] objects = Err wrong.Place
+received kind [] objects = Err wrong.Absent
 received kind (receiver ∷ operands) objects =
     after (borrowed_by receiver) (λ id. after (object_at objects id) (λ found. needs (found.kind == kind) wrong.Kind
     (after (after_borrow id objects) (λ left. Ok (record { id = id; found = found; operands = operands; left = left })))))

@@ -39,7 +39,7 @@ cycle_tested false one value place old = Ok (Goes (record { id = one.id; place =
 
 -- the test before, where an old item stands in the place
 abbrev pub old_tested : Option Value → Received → Value → ℕ → Result Tested Wrong
-old_tested None one value place = Err wrong.Place
+old_tested None one value place = Err wrong.Absent
 old_tested (Some old) one value place = cycle_tested (is_under one.id value one.left) one value place old
 
 -- and that of the index: a panic where it names no place

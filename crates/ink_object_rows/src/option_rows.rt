@@ -68,7 +68,7 @@ pub fn stdout_row(
     ensures ran { proc.new.ran ≡ proc.old.ran }
 {
     let None = values.split_first() else {
-        return Err(RowFault::Wrong(Wrong::Place));
+        return Err(RowFault::Wrong(Wrong::Absent));
     };
     if let Some(text) = full_text(alloc, limits, proc.heap.len(), proc.made)? {
         return Ok(Computed::Raises(text));
@@ -92,7 +92,7 @@ fn lent_value(alloc: Global, heap: &Heap, id: &ObjectId) -> Result<Option<Value>
         }
     }
     match heap.read(id, 0) {
-        None => Err(RowFault::Wrong(Wrong::Place)),
+        None => Err(RowFault::Wrong(Wrong::Absent)),
         Some(value) => Ok(Some(lent(value.copy(alloc)?))),
     }
 }
@@ -134,7 +134,7 @@ fn panic_borrowed(alloc: Global, proc: &Proc, code: &Code, count: u64) -> Result
     ensures { RowAnswers (given Wrong.Place (slice_get code.now.kinds option_kind) (λ name. fails (drop_text name count) (state_of proc.now))) result (state_of proc.now) (state_of proc.now) [] [] }
 {
     match code.kinds.get(u64::from(OPTION_KIND)) {
-        None => Err(RowFault::Wrong(Wrong::Place)),
+        None => Err(RowFault::Wrong(Wrong::Absent)),
         Some(name) => Ok(Computed::Raises(drop_text(alloc, name, count)?)),
     }
 }
@@ -149,7 +149,7 @@ fn take_value(proc: &mut Proc, id: &ObjectId) -> Result<Value, Wrong>
         None => Err(Wrong::Object),
         Some(mut object) => {
             if object.fields.len() == 0 {
-                return Err(Wrong::Place);
+                return Err(Wrong::Absent);
             }
             Ok(object.fields.set(0, Value::Empty))
         }

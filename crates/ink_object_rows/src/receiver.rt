@@ -20,7 +20,7 @@ pub(crate) fn receiver<'a>(
         (λ why. received kind values.now heap.now.objects ≡ Err why) }
 {
     let (id, operands) = match values.split_first() {
-        None => return Err(Wrong::Place),
+        None => return Err(Wrong::Absent),
         Some((Value::Bor(id), operands)) => (*id, operands),
         Some(_) => return Err(Wrong::Kind),
     };
@@ -53,7 +53,7 @@ pub(crate) fn lone_receiver(heap: &Heap, kind: u32, values: &[Value]) -> Result<
     let (id, operands) = receiver(heap, kind, values)?;
     match operands.split_first() {
         None => Ok(id),
-        Some(_) => Err(Wrong::Place),
+        Some(_) => Err(Wrong::Absent),
     }
 }
 

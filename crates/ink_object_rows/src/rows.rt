@@ -38,7 +38,7 @@ pub fn array_row(
         35 => set_row(alloc, proc, values),
         36 => swap_row(alloc, proc, values),
         37 => clear_row(alloc, proc, values),
-        _ => Err(RowFault::Wrong(Wrong::Place)),
+        _ => Err(RowFault::Wrong(Wrong::Absent)),
     }
 }
 
@@ -63,6 +63,6 @@ pub fn option_row(
         41 => as_ref_row(alloc, proc, limits, values),
         42 => as_ref_row(alloc, proc, limits, values),
         47 => stdout_row(alloc, proc, limits, values),
-        _ => Err(RowFault::Wrong(Wrong::Place)),
+        _ => Err(RowFault::Wrong(Wrong::Absent)),
     }
 }

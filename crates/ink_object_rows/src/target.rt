@@ -38,7 +38,7 @@ pub(crate) fn find_target(alloc: Global, heap: &Heap, values: &[Value]) -> Resul
         Some(place) => place as u64,
     };
     let Some(_item) = heap.read(&id, place) else {
-        return Err(RowFault::Wrong(Wrong::Place));
+        return Err(RowFault::Wrong(Wrong::Absent));
     };
     if is_under(alloc, heap, &id, value)? {
         return Ok(Target::Panic(Text::of(alloc, b"ownership cycle")?));

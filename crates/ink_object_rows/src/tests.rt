@@ -174,7 +174,7 @@ fn an_array_under_itself(rt: HostRuntime) -> Result<(), Fail> {
     assert!(rt; raises(&came, b"ownership cycle"));
     let mut values = [Value::Bor(FIRST)];
     let came = array_row(rt.alloc(), &mut process, &limits, 38, &mut values);
-    assert!(rt; matches!(came, Err(RowFault::Wrong(Wrong::Place))));
+    assert!(rt; matches!(came, Err(RowFault::Wrong(Wrong::Absent))));
     let came = array_row(rt.alloc(), &mut process, &limits, 30, &mut values);
     assert!(rt; matches!(came, Ok(Computed::Gives(Value::Bool(false)))));
     Ok(())

@@ -95,7 +95,7 @@ mod tests {
         assert!(rt; row.name.is(b"set"));
         assert_eq!(rt; row.name.bytes[3], 0);
         assert_eq!(rt; row.receiver, Kind::Array);
-        assert_eq!(rt; row.mode, Mode::M);
+        assert_eq!(rt; row.mode, Mode::Mutate);
         assert_eq!(rt; row.operands, [Some(Slot::Int), Some(Slot::Item)]);
         assert_eq!(rt; row.result, Slot::Nil);
         assert!(rt; !row.fresh && !row.borrows);

@@ -6,7 +6,7 @@ use Rattle.ink_grammar.specs.declared.tree.Node.{Node}
 use Rattle.ink_grammar.specs.declared.tree.Node.TheVariants as node
 use Rattle.ink_grammar.specs.Tree.{Tree, Missing, Leaf, Empty, One, Two, Three, Four, Five}
 use Rattle.ink_grammar.specs.Built.{at, grow, trees}
-use Rattle.ink_print.specs.declared.place.Place.{Place}
+use Rattle.ink_print.specs.declared.context.Context.{Context}
 use Rattle.ink_print.specs.declared.step.Sign.{Sign}
 use Rattle.ink_print.specs.declared.step.Slot.{Slot}
 use Rattle.ink_print.specs.declared.step.Step.{Step}
@@ -21,17 +21,17 @@ use Rattle.ink_print.proofs.Trees.{split, tree_past, tree_at, tree_before, tree_
 use Rattle.ink_print.proofs.Told.{each_child}
 
 -- the turns of some steps, given those of each child
-abbrev pub count : (Slot → Place → ℕ) → List Step → ℕ
+abbrev pub count : (Slot → Context → ℕ) → List Step → ℕ
 count f [] = 0
 count f (step.Sign s ∷ steps) = 1 + count f steps
 count f (step.Child k p ∷ steps) = f k p + count f steps
 
 -- the turn of a child that isn't there
-abbrev pub one_turn : Place → ℕ
+abbrev pub one_turn : Context → ℕ
 one_turn p = 1
 
 -- the turns of a tree
-unfoldable pub turns : Tree → Place → ℕ
+unfoldable pub turns : Tree → Context → ℕ
 turns Missing p = 1
 turns (Leaf t) p = 4
 turns Empty p = 3
@@ -66,7 +66,7 @@ unfolding cost
 cost_sign ts None = omega arith
 cost_sign ts (Some s) = omega arith
 
-cost_steps : (ts : List Tree) (x : Node) (k : ℕ) (f : Slot → Place → ℕ) → ((s : Slot) (p : Place) → turns_of ts (child_work k (child x s) p) ≡ f s p) → (steps : List Step) → cost ts (map (work_of x k) steps) ≡ count f steps
+cost_steps : (ts : List Tree) (x : Node) (k : ℕ) (f : Slot → Context → ℕ) → ((s : Slot) (p : Context) → turns_of ts (child_work k (child x s) p) ≡ f s p) → (steps : List Step) → cost ts (map (work_of x k) steps) ≡ count f steps
 unfolding cost
 cost_steps ts x k f h [] = refl
 cost_steps ts x k f h (step.Sign s ∷ steps) = ap (λ y. 1 + y) (cost_steps ts x k f h steps)
@@ -85,19 +85,19 @@ unfolding cost
 cost_none ts = refl
 
 module _ (ts us : List Tree) (k : ℕ) (near : (c : ℕ) → nat_lt c k ≡ true → at ts c ≡ at us c) (far : (c : ℕ) → nat_lt c k ≡ false → Missing ≡ at us c) where
-  turns_missing : (t : Tree) (p : Place) → Missing ≡ t → 1 ≡ turns t p
+  turns_missing : (t : Tree) (p : Context) → Missing ≡ t → 1 ≡ turns t p
   unfolding turns
   turns_missing t p e = ap (λ y. turns y p) e
 
-  turns_child : (c : ℕ) (p : Place) → turns_of ts (child_work k (Some c) p) ≡ turns (at us c) p
+  turns_child : (c : ℕ) (p : Context) → turns_of ts (child_work k (Some c) p) ≡ turns (at us c) p
   turns_child c p = by_cases (nat_lt c k)
       (λ e. ap (λ b. turns_of ts (if b then work.Node c p else work.Nothing)) e ∙ ap (λ y. turns y p) (near c e))
       (λ e. ap (λ b. turns_of ts (if b then work.Node c p else work.Nothing)) e ∙ turns_missing (at us c) p (far c e))
 
-  none : (p : Place) → turns_of ts (child_work k None p) ≡ one_turn p
+  none : (p : Context) → turns_of ts (child_work k None p) ≡ one_turn p
   none p = refl
 
-  pub cost_node : (x : Node) (p : Place) → cost ts (expansion x k p) < turns (grow us x) p
+  pub cost_node : (x : Node) (p : Context) → cost ts (expansion x k p) < turns (grow us x) p
   unfolding turns
   cost_node (node.Leaf t) p = cost_between ts (opening p (rank_of (node.Leaf t))) (closing p (rank_of (node.Leaf t))) (token_work (node.Leaf t) p) 1 (cost_one ts _)
   cost_node node.Empty p = cost_between ts (opening p (rank_of node.Empty)) (closing p (rank_of node.Empty)) [] 0 (cost_none ts)
@@ -117,7 +117,7 @@ module _ (ts us : List Tree) (k : ℕ) (near : (c : ℕ) → nat_lt c k ≡ true
       cost_between ts (opening p (rank_of x)) (closing p (rank_of x)) (map (work_of x k) (steps_of x (inner p))) _
       (cost_steps ts x k (chosen (turns (at us a)) (turns (at us b)) (turns (at us c)) (turns (at us d)) (turns (at us e))) (each_child (turns_of ts) k (Some a) (Some b) (Some c) (Some d) (Some e) (turns (at us a)) (turns (at us b)) (turns (at us c)) (turns (at us d)) (turns (at us e)) (turns_child a) (turns_child b) (turns_child c) (turns_child d) (turns_child e)) (steps_of x (inner p)))
 
-module _ (ns : List Node) (k : ℕ) (p : Place) where
+module _ (ns : List Node) (k : ℕ) (p : Context) where
   missing : (t : Tree) → t ≡ Missing → 1 ≡ turns t p
   unfolding turns
   missing t e = ap (λ y. turns y p) (sym e)

@@ -7,7 +7,7 @@ use Rattle.ink_grammar.specs.declared.tree.Node.{Node}
 use Rattle.ink_grammar.specs.declared.tree.Node.TheVariants as node
 use Rattle.ink_grammar.specs.Tree.{Tree, Missing}
 use Rattle.ink_grammar.specs.Built.{at, grow, trees}
-use Rattle.ink_print.specs.declared.place.Place.{Place}
+use Rattle.ink_print.specs.declared.context.Context.{Context}
 use Rattle.ink_print.specs.declared.step.Piece.{Piece}
 use Rattle.ink_print.specs.declared.step.Piece.TheVariants as piece
 use Rattle.ink_print.specs.declared.step.Sign.{Sign}
@@ -47,10 +47,10 @@ told_both ts [] ws = refl
 told_both ts (v ∷ vs) ws = ap (λ y. said ts v ++ y) (told_both ts vs ws) ∙ sym (append_assoc (said ts v) (told ts vs) (told ts ws))
 
 -- what holds of each child's work holds of that in its slot
-pub each_child : {A : Type 0} (f : Work → A) (k : ℕ) (a b c d e : Option ℕ) (ga gb gc gd ge : Place → A)
-    → ((p : Place) → f (child_work k a p) ≡ ga p) → ((p : Place) → f (child_work k b p) ≡ gb p) → ((p : Place) → f (child_work k c p) ≡ gc p)
-    → ((p : Place) → f (child_work k d p) ≡ gd p) → ((p : Place) → f (child_work k e p) ≡ ge p)
-    → (s : Slot) (p : Place) → f (child_work k (chosen a b c d e s) p) ≡ chosen ga gb gc gd ge s p
+pub each_child : {A : Type 0} (f : Work → A) (k : ℕ) (a b c d e : Option ℕ) (ga gb gc gd ge : Context → A)
+    → ((p : Context) → f (child_work k a p) ≡ ga p) → ((p : Context) → f (child_work k b p) ≡ gb p) → ((p : Context) → f (child_work k c p) ≡ gc p)
+    → ((p : Context) → f (child_work k d p) ≡ gd p) → ((p : Context) → f (child_work k e p) ≡ ge p)
+    → (s : Slot) (p : Context) → f (child_work k (chosen a b c d e s) p) ≡ chosen ga gb gc gd ge s p
 each_child f k a b c d e ga gb gc gd ge ha hb hc hd he slot.First p = ha p
 each_child f k a b c d e ga gb gc gd ge ha hb hc hd he slot.Second p = hb p
 each_child f k a b c d e ga gb gc gd ge ha hb hc hd he slot.Third p = hc p
@@ -63,7 +63,7 @@ told_sign ts None = refl
 told_sign ts (Some s) = refl
 
 -- the pieces of the steps of a node
-told_steps : (ts : List Tree) (x : Node) (k : ℕ) (f : Slot → Place → List Piece) → ((s : Slot) (p : Place) → said ts (child_work k (child x s) p) ≡ f s p) → (steps : List Step) → told ts (map (work_of x k) steps) ≡ fill f steps
+told_steps : (ts : List Tree) (x : Node) (k : ℕ) (f : Slot → Context → List Piece) → ((s : Slot) (p : Context) → said ts (child_work k (child x s) p) ≡ f s p) → (steps : List Step) → told ts (map (work_of x k) steps) ≡ fill f steps
 unfolding told
 told_steps ts x k f h [] = refl
 told_steps ts x k f h (step.Sign s ∷ steps) = ap (λ y. piece.Sign s ∷ y) (told_steps ts x k f h steps)
@@ -79,19 +79,19 @@ unfolding told
 told_one ts p = refl
 
 module _ (ts us : List Tree) (k : ℕ) (near : (c : ℕ) → nat_lt c k ≡ true → at ts c ≡ at us c) (far : (c : ℕ) → nat_lt c k ≡ false → Missing ≡ at us c) where
-  printed_missing : (t : Tree) (p : Place) → Missing ≡ t → [] ≡ printed t p
+  printed_missing : (t : Tree) (p : Context) → Missing ≡ t → [] ≡ printed t p
   unfolding printed
   printed_missing t p e = ap (λ y. printed y p) e
 
-  said_child : (c : ℕ) (p : Place) → said ts (child_work k (Some c) p) ≡ printed (at us c) p
+  said_child : (c : ℕ) (p : Context) → said ts (child_work k (Some c) p) ≡ printed (at us c) p
   said_child c p = by_cases (nat_lt c k)
       (λ e. ap (λ b. said ts (if b then work.Node c p else work.Nothing)) e ∙ ap (λ y. printed y p) (near c e))
       (λ e. ap (λ b. said ts (if b then work.Node c p else work.Nothing)) e ∙ printed_missing (at us c) p (far c e))
 
-  none : (p : Place) → said ts (child_work k None p) ≡ no_pieces p
+  none : (p : Context) → said ts (child_work k None p) ≡ no_pieces p
   none p = refl
 
-  pub told_node : (x : Node) (p : Place) → told ts (expansion x k p) ≡ printed (grow us x) p
+  pub told_node : (x : Node) (p : Context) → told ts (expansion x k p) ≡ printed (grow us x) p
   unfolding printed
   told_node (node.Leaf t) p = told_between ts (opening p (rank_of (node.Leaf t))) (closing p (rank_of (node.Leaf t))) (token_work (node.Leaf t) p) (token_piece p t ∷ []) (told_one ts (token_piece p t))
   told_node node.Empty p = told_between ts (opening p (rank_of node.Empty)) (closing p (rank_of node.Empty)) [] [] (told_none ts)
@@ -111,7 +111,7 @@ module _ (ts us : List Tree) (k : ℕ) (near : (c : ℕ) → nat_lt c k ≡ true
       told_between ts (opening p (rank_of x)) (closing p (rank_of x)) (map (work_of x k) (steps_of x (inner p))) _
       (told_steps ts x k (chosen (printed (at us a)) (printed (at us b)) (printed (at us c)) (printed (at us d)) (printed (at us e))) (each_child (said ts) k (Some a) (Some b) (Some c) (Some d) (Some e) (printed (at us a)) (printed (at us b)) (printed (at us c)) (printed (at us d)) (printed (at us e)) (said_child a) (said_child b) (said_child c) (said_child d) (said_child e)) (steps_of x (inner p)))
 
-module _ (ns : List Node) (k : ℕ) (p : Place) where
+module _ (ns : List Node) (k : ℕ) (p : Context) where
   missing : (t : Tree) → t ≡ Missing → [] ≡ printed t p
   unfolding printed
   missing t e = ap (λ y. printed y p) (sym e)

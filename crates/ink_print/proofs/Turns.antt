@@ -3,7 +3,7 @@ use Rattle.std.proofs.Common.{◌≡◌, ℕ, ◌<◌, List, [], ◌∷◌, ◌+
 use Rattle.std.proofs.lemmas.List.{append_assoc, append-nil}
 use Rattle.ink_grammar.specs.declared.tree.Node.{Node}
 use Rattle.ink_grammar.specs.Built.{at, trees}
-use Rattle.ink_print.specs.declared.place.Place.{Place}
+use Rattle.ink_print.specs.declared.context.Context.{Context}
 use Rattle.ink_print.specs.declared.step.Piece.{Piece}
 use Rattle.ink_print.specs.declared.work.Work.{Work}
 use Rattle.ink_print.specs.declared.work.Work.TheVariants as work
@@ -14,7 +14,7 @@ use Rattle.ink_print.proofs.Cost.{cost, cost_next, cost_both, cost_opened}
 
 module _ (ns : List Node) where
   -- before the first turn
-  pub begun : (root : ℕ) (p : Place) (ps : List Piece) (none new : List Work) → ps ≡ [] → none ≡ [] → new ≡ work.Node root p ∷ none → ps ++ told (trees ns) new ≡ printed (at (trees ns) root) p
+  pub begun : (root : ℕ) (p : Context) (ps : List Piece) (none new : List Work) → ps ≡ [] → none ≡ [] → new ≡ work.Node root p ∷ none → ps ++ told (trees ns) new ≡ printed (at (trees ns) root) p
   begun root p ps none new e f g = ap (λ y. y ++ told (trees ns) new) e ∙ ap (λ y. told (trees ns) y) (g ∙ ap (λ y. work.Node root p ∷ y) f)
       ∙ told_next (trees ns) (work.Node root p) [] ∙ ap (λ y. printed (at (trees ns) root) p ++ y) (told_none (trees ns)) ∙ append-nil (printed (at (trees ns) root) p)
 
@@ -30,7 +30,7 @@ module _ (ns : List Node) where
     piece_said p qs e f = ap (λ y. y ++ told (trees ns) new) f ∙ append_assoc ps (p ∷ []) (told (trees ns) new)
         ∙ ap (λ y. ps ++ y) (sym (ap (λ y. told (trees ns) y) (taken ∙ ap (λ y. y ∷ new) e) ∙ told_next (trees ns) (work.Piece p) new)) ∙ kept
 
-    pub node_said : (k : ℕ) (p : Place) (more : List Work) → w ≡ work.Node k p → more ≡ opened ns k p ++ new → ps ++ told (trees ns) more ≡ whole
+    pub node_said : (k : ℕ) (p : Context) (more : List Work) → w ≡ work.Node k p → more ≡ opened ns k p ++ new → ps ++ told (trees ns) more ≡ whole
     node_said k p more e f =
         let left : told (trees ns) more ≡ printed (at (trees ns) k) p ++ told (trees ns) new = ap (λ y. told (trees ns) y) f ∙ told_both (trees ns) (opened ns k p) new ∙ ap (λ y. y ++ told (trees ns) new) (told_opened ns k p) in
         let right : told (trees ns) old ≡ printed (at (trees ns) k) p ++ told (trees ns) new = ap (λ y. told (trees ns) y) (taken ∙ ap (λ y. y ∷ new) e) ∙ told_next (trees ns) (work.Node k p) new in
@@ -43,5 +43,5 @@ module _ (ns : List Node) where
     pub piece_costs : (p : Piece) → w ≡ work.Piece p → cost (trees ns) new < cost (trees ns) old
     piece_costs p e = omega (arith, ap (λ y. cost (trees ns) y) (taken ∙ ap (λ y. y ∷ new) e), cost_next (trees ns) (work.Piece p) new)
 
-    pub node_costs : (k : ℕ) (p : Place) (more : List Work) → w ≡ work.Node k p → more ≡ opened ns k p ++ new → cost (trees ns) more < cost (trees ns) old
+    pub node_costs : (k : ℕ) (p : Context) (more : List Work) → w ≡ work.Node k p → more ≡ opened ns k p ++ new → cost (trees ns) more < cost (trees ns) old
     node_costs k p more e f = omega (arith, ap (λ y. cost (trees ns) y) f, cost_both (trees ns) (opened ns k p) new, cost_opened ns k p, ap (λ y. cost (trees ns) y) (taken ∙ ap (λ y. y ∷ new) e), cost_next (trees ns) (work.Node k p) new)

@@ -3,7 +3,7 @@ use Rattle.std.specs.Prelude.{ℕ, ◌+◌, ◌-◌, ◌*◌, nat_le, Bool, true
 use Rattle.ink_grammar.specs.declared.token.Mark.TheVariants as mark
 use Rattle.ink_grammar.specs.declared.token.Shape.{Shape}
 use Rattle.ink_grammar.specs.declared.token.Shape.TheVariants as shape
-use Rattle.ink_grammar.specs.declared.token.Token.{Token}
+use Rattle.ink_grammar.specs.declared.token.Terminal.{Terminal}
 use Rattle.ink_grammar.specs.Tree.{Tree}
 use Rattle.ink_print.specs.declared.class.Class.{Class}
 use Rattle.ink_print.specs.declared.class.Class.TheVariants as class
@@ -139,7 +139,7 @@ sign_text sign.If = codes "if"
 sign_text sign.Or = codes "or"
 
 -- the bytes of a token: none where it isn't inside the source
-abbrev pub token_text : List ℕ → Token → List ℕ
+abbrev pub token_text : List ℕ → Terminal → List ℕ
 token_text source t = if nat_le t.start t.end && nat_le t.end (length source) then slice_range source t.start t.end else []
 
 -- the bytes of a piece

@@ -1,11 +1,11 @@
 -- The pieces that a tree is printed as.
 use Rattle.std.specs.Prelude.{List, [], ◌∷◌, ◌++◌, Option, Some, None}
-use Rattle.ink_grammar.specs.declared.token.Token.{Token}
+use Rattle.ink_grammar.specs.declared.token.Terminal.{Terminal}
 use Rattle.ink_grammar.specs.Tree.{Tree, Missing, Leaf, Empty, One, Two, Three, Four, Five}
-use Rattle.ink_print.specs.declared.place.Place.{Place}
-use Rattle.ink_print.specs.declared.place.Place.TheVariants as place
-use Rattle.ink_print.specs.declared.place.Rank.{Rank}
-use Rattle.ink_print.specs.declared.place.Rank.TheVariants as rank
+use Rattle.ink_print.specs.declared.context.Context.{Context}
+use Rattle.ink_print.specs.declared.context.Context.TheVariants as context
+use Rattle.ink_print.specs.declared.context.Rank.{Rank}
+use Rattle.ink_print.specs.declared.context.Rank.TheVariants as rank
 use Rattle.ink_print.specs.declared.step.Piece.{Piece}
 use Rattle.ink_print.specs.declared.step.Piece.TheVariants as piece
 use Rattle.ink_print.specs.declared.step.Sign.{Sign}
@@ -24,8 +24,8 @@ chosen a b c d e slot.Third = c
 chosen a b c d e slot.Fourth = d
 chosen a b c d e slot.Fifth = e
 
--- the pieces of some steps, given those of each child at a place
-abbrev pub fill : (Slot → Place → List Piece) → List Step → List Piece
+-- the pieces of some steps, given those of each child at a context
+abbrev pub fill : (Slot → Context → List Piece) → List Step → List Piece
 fill child [] = []
 fill child (step.Sign s ∷ steps) = piece.Sign s ∷ fill child steps
 fill child (step.Child k p ∷ steps) = child k p ++ fill child steps
@@ -35,21 +35,21 @@ abbrev pub sign_piece : Option Sign → List Piece
 sign_piece None = []
 sign_piece (Some s) = piece.Sign s ∷ []
 
--- pieces between the signs that their place asks for
-abbrev pub around : Place → Rank → List Piece → List Piece
+-- pieces between the signs that their context asks for
+abbrev pub around : Context → Rank → List Piece → List Piece
 around p r inside = sign_piece (opening p r) ++ (inside ++ sign_piece (closing p r))
 
--- a token at its place: behind a dot it is a name
-abbrev pub token_piece : Place → Token → Piece
-token_piece place.Name t = piece.Name t
+-- a token at its context: behind a dot it is a name
+abbrev pub token_piece : Context → Terminal → Piece
+token_piece context.Name t = piece.Name t
 token_piece _ t = piece.Token t
 
 -- no pieces, for a child that a form doesn't have
-abbrev pub no_pieces : Place → List Piece
+abbrev pub no_pieces : Context → List Piece
 no_pieces p = []
 
--- the pieces of a tree at a place
-unfoldable pub printed : Tree → Place → List Piece
+-- the pieces of a tree at a context
+unfoldable pub printed : Tree → Context → List Piece
 printed Missing p = []
 printed (Leaf t) p = around p (rank_of_shape t.shape) (token_piece p t ∷ [])
 printed Empty p = around p rank.NoItems []
@@ -61,4 +61,4 @@ printed (Five form s a b c d e) p = around p rank.Base (fill (chosen (printed a)
 
 -- the pieces of a module
 abbrev pub pieces : Tree → List Piece
-pieces t = printed t place.Expression
+pieces t = printed t context.Expression

@@ -1,4 +1,4 @@
--- What stands round a part at its place.
+-- What stands round a part at its context.
 use Rattle.std.specs.Prelude.{Bool, true, false, Option, Some, None, if◌then◌else◌}
 use Rattle.ink_grammar.specs.declared.token.Keyword.TheVariants as keyword
 use Rattle.ink_grammar.specs.declared.token.Shape.{Shape}
@@ -7,10 +7,10 @@ use Rattle.ink_grammar.specs.declared.tree.TwoChildren.{TwoChildren}
 use Rattle.ink_grammar.specs.declared.tree.TwoChildren.TheVariants as two_of
 use Rattle.ink_grammar.specs.declared.tree.ThreeChildren.{ThreeChildren}
 use Rattle.ink_grammar.specs.declared.tree.ThreeChildren.TheVariants as three_of
-use Rattle.ink_print.specs.declared.place.Place.{Place}
-use Rattle.ink_print.specs.declared.place.Place.TheVariants as place
-use Rattle.ink_print.specs.declared.place.Rank.{Rank}
-use Rattle.ink_print.specs.declared.place.Rank.TheVariants as rank
+use Rattle.ink_print.specs.declared.context.Context.{Context}
+use Rattle.ink_print.specs.declared.context.Context.TheVariants as context
+use Rattle.ink_print.specs.declared.context.Rank.{Rank}
+use Rattle.ink_print.specs.declared.context.Rank.TheVariants as rank
 use Rattle.ink_print.specs.declared.step.Sign.{Sign}
 use Rattle.ink_print.specs.declared.step.Sign.TheVariants as sign
 
@@ -36,61 +36,61 @@ rank_of_three three_of.Assign = rank.Expression
 rank_of_three three_of.Binary = rank.Chain
 rank_of_three _ = rank.Base
 
--- whether the grammar doesn't derive it at its place without parentheses
-abbrev pub needs_parentheses : Place → Rank → Bool
-needs_parentheses place.Chain rank.Expression = true
-needs_parentheses place.Operand rank.Expression = true
-needs_parentheses place.Operand rank.Chain = true
-needs_parentheses place.Base rank.Expression = true
-needs_parentheses place.Base rank.Chain = true
-needs_parentheses place.Base rank.Operand = true
+-- whether the grammar doesn't derive it at its context without parentheses
+abbrev pub needs_parentheses : Context → Rank → Bool
+needs_parentheses context.Chain rank.Expression = true
+needs_parentheses context.Operand rank.Expression = true
+needs_parentheses context.Operand rank.Chain = true
+needs_parentheses context.Base rank.Expression = true
+needs_parentheses context.Base rank.Chain = true
+needs_parentheses context.Base rank.Operand = true
 needs_parentheses _ _ = false
 
--- the sign before a part, where there is a part at this place
-abbrev pub introduction : Place → Rank → Option Sign
-introduction place.Body rank.NoItems = None
-introduction place.Body _ = Some sign.Line
-introduction place.TextItem rank.TextPart = None
-introduction place.TextItem _ = Some sign.TextOpening
-introduction place.Bracketed _ = Some sign.LeftBracket
-introduction place.Parenthesised _ = Some sign.LeftParen
-introduction place.ImportNames _ = Some sign.ImportParen
-introduction place.Bounded _ = Some sign.Colon
-introduction place.Annotated _ = Some sign.Colon
-introduction place.Returned _ = Some sign.Arrow
-introduction place.Implemented _ = Some sign.For
-introduction place.Otherwise _ = Some sign.Else
-introduction place.Guard _ = Some sign.If
+-- the sign before a part, where there is a part at this context
+abbrev pub introduction : Context → Rank → Option Sign
+introduction context.Body rank.NoItems = None
+introduction context.Body _ = Some sign.Line
+introduction context.TextItem rank.TextPart = None
+introduction context.TextItem _ = Some sign.TextOpening
+introduction context.Bracketed _ = Some sign.LeftBracket
+introduction context.Parenthesised _ = Some sign.LeftParen
+introduction context.ImportNames _ = Some sign.ImportParen
+introduction context.Bounded _ = Some sign.Colon
+introduction context.Annotated _ = Some sign.Colon
+introduction context.Returned _ = Some sign.Arrow
+introduction context.Implemented _ = Some sign.For
+introduction context.Otherwise _ = Some sign.Else
+introduction context.Guard _ = Some sign.If
 introduction _ _ = None
 
--- the sign behind a part, where there is a part at this place
-abbrev pub conclusion : Place → Rank → Option Sign
-conclusion place.TextItem rank.TextPart = None
-conclusion place.TextItem _ = Some sign.TextClosing
-conclusion place.Bracketed _ = Some sign.RightBracket
-conclusion place.Parenthesised _ = Some sign.RightParen
-conclusion place.ImportNames _ = Some sign.RightParen
+-- the sign behind a part, where there is a part at this context
+abbrev pub conclusion : Context → Rank → Option Sign
+conclusion context.TextItem rank.TextPart = None
+conclusion context.TextItem _ = Some sign.TextClosing
+conclusion context.Bracketed _ = Some sign.RightBracket
+conclusion context.Parenthesised _ = Some sign.RightParen
+conclusion context.ImportNames _ = Some sign.RightParen
 conclusion _ _ = None
 
 -- what stands before a part
-abbrev pub opening : Place → Rank → Option Sign
+abbrev pub opening : Context → Rank → Option Sign
 opening p r = if needs_parentheses p r then Some sign.LeftParen else introduction p r
 
 -- what stands behind a part
-abbrev pub closing : Place → Rank → Option Sign
+abbrev pub closing : Context → Rank → Option Sign
 closing p r = if needs_parentheses p r then Some sign.RightParen else conclusion p r
 
--- the place between the two signs
-abbrev pub inner : Place → Place
-inner place.Body = place.Lines
-inner place.TextItem = place.Expression
-inner place.Bracketed = place.Items
-inner place.Parenthesised = place.Items
-inner place.ImportNames = place.Items
-inner place.Bounded = place.Bounds
-inner place.Annotated = place.Expression
-inner place.Returned = place.Expression
-inner place.Implemented = place.Expression
-inner place.Otherwise = place.Expression
-inner place.Guard = place.Chain
+-- the context between the two signs
+abbrev pub inner : Context → Context
+inner context.Body = context.Lines
+inner context.TextItem = context.Expression
+inner context.Bracketed = context.Items
+inner context.Parenthesised = context.Items
+inner context.ImportNames = context.Items
+inner context.Bounded = context.Bounds
+inner context.Annotated = context.Expression
+inner context.Returned = context.Expression
+inner context.Implemented = context.Expression
+inner context.Otherwise = context.Expression
+inner context.Guard = context.Chain
 inner p = p

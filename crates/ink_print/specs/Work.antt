@@ -2,9 +2,9 @@
 use Rattle.std.specs.Prelude.{ℕ, nat_lt, if◌then◌else◌, List, [], ◌∷◌, ◌++◌, map, Option, Some, None, slice_get}
 use Rattle.ink_grammar.specs.declared.tree.Node.{Node}
 use Rattle.ink_grammar.specs.declared.tree.Node.TheVariants as node
-use Rattle.ink_print.specs.declared.place.Place.{Place}
-use Rattle.ink_print.specs.declared.place.Rank.{Rank}
-use Rattle.ink_print.specs.declared.place.Rank.TheVariants as rank
+use Rattle.ink_print.specs.declared.context.Context.{Context}
+use Rattle.ink_print.specs.declared.context.Rank.{Rank}
+use Rattle.ink_print.specs.declared.context.Rank.TheVariants as rank
 use Rattle.ink_print.specs.declared.step.Piece.TheVariants as piece
 use Rattle.ink_print.specs.declared.step.Sign.{Sign}
 use Rattle.ink_print.specs.declared.step.Slot.{Slot}
@@ -36,8 +36,8 @@ rank_of (node.Three form s a b c) = rank_of_three form
 rank_of (node.Four form s a b c d) = rank.Base
 rank_of (node.Five form s a b c d e) = rank.Base
 
--- the steps of a node at a place
-abbrev pub steps_of : Node → Place → List Step
+-- the steps of a node at a context
+abbrev pub steps_of : Node → Context → List Step
 steps_of (node.Leaf t) p = []
 steps_of node.Empty p = []
 steps_of (node.One form s a) p = one form p
@@ -47,7 +47,7 @@ steps_of (node.Four form s a b c d) p = four form
 steps_of (node.Five form s a b c d e) p = five form
 
 -- the work of a child of the node of this number: only a node before it is its child
-abbrev pub child_work : ℕ → Option ℕ → Place → Work
+abbrev pub child_work : ℕ → Option ℕ → Context → Work
 child_work number None p = work.Nothing
 child_work number (Some c) p = if nat_lt c number then work.Node c p else work.Nothing
 
@@ -62,19 +62,19 @@ sign_work None = []
 sign_work (Some s) = work.Piece (piece.Sign s) ∷ []
 
 -- the work of a token that is kept
-abbrev pub token_work : Node → Place → List Work
+abbrev pub token_work : Node → Context → List Work
 token_work (node.Leaf t) p = work.Piece (token_piece p t) ∷ []
 token_work _ p = []
 
--- the work of the node of this number at a place
-abbrev pub expansion : Node → ℕ → Place → List Work
+-- the work of the node of this number at a context
+abbrev pub expansion : Node → ℕ → Context → List Work
 expansion x number p = sign_work (opening p (rank_of x)) ++ (token_work x p ++ (map (work_of x number) (steps_of x (inner p)) ++ sign_work (closing p (rank_of x))))
 
--- the work of a node of a number at a place: none where there is no node
-abbrev pub work_at : Option Node → ℕ → Place → List Work
+-- the work of a node of a number at a context: none where there is no node
+abbrev pub work_at : Option Node → ℕ → Context → List Work
 work_at None number p = []
 work_at (Some x) number p = expansion x number p
 
--- the work of this number at a place
-abbrev pub opened : List Node → ℕ → Place → List Work
+-- the work of this number at a context
+abbrev pub opened : List Node → ℕ → Context → List Work
 opened nodes number p = work_at (slice_get nodes number) number p

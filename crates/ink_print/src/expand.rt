@@ -4,12 +4,12 @@ ghost use Rattle.std.specs.Prelude.{◌≡◌, ◌++◌, map, OnOk};
 ghost use Rattle.ink_print.specs.Printed.{chosen, token_piece};
 ghost use Rattle.ink_print.specs.Work as spec;
 
+use crate::context::{Context, Rank};
 use crate::forms;
-use crate::place::{Place, Rank};
 use crate::step::{Piece, Sign, Slot, Step};
 use crate::surround::{closing, inner, opening, rank_of_shape, rank_of_three, rank_of_two};
 use crate::work::{Stack, Work};
-use ink_grammar::{Node, Token};
+use ink_grammar::{Node, Terminal};
 use std::alloc::AllocError;
 
 /// The number that belongs to a slot.
@@ -64,15 +64,15 @@ fn rank_of(node: Node) -> Rank
     }
 }
 
-/// The steps of a node at a place.
-fn steps_of(node: Node, place: Place) -> &'static [Step]
-    ensures { result.now ≡ spec.steps_of node place }
+/// The steps of a node at a context.
+fn steps_of(node: Node, context: Context) -> &'static [Step]
+    ensures { result.now ≡ spec.steps_of node context }
 {
     match node {
         Node::Leaf(_) => &[],
         Node::Empty => &[],
-        Node::One(form, _, _) => forms::one(form, place),
-        Node::Two(form, _, _, _) => forms::two(form, place),
+        Node::One(form, _, _) => forms::one(form, context),
+        Node::Two(form, _, _, _) => forms::two(form, context),
         Node::Three(form, _, _, _, _) => forms::three(form),
         Node::Four(form, _, _, _, _, _) => forms::four(form),
         Node::Five(form, _, _, _, _, _, _) => forms::five(form),
@@ -80,13 +80,13 @@ fn steps_of(node: Node, place: Place) -> &'static [Step]
 }
 
 /// The work of a child of the node of this number. Only a node before it is its child.
-fn child_work(number: u32, child: Option<u32>, place: Place) -> Work
-    ensures { result ≡ spec.child_work number child place }
+fn child_work(number: u32, child: Option<u32>, context: Context) -> Work
+    ensures { result ≡ spec.child_work number child context }
 {
     match child {
         Some(child) => {
             if child < number {
-                Work::Node(child, place)
+                Work::Node(child, context)
             } else {
                 Work::Nothing
             }
@@ -101,16 +101,16 @@ fn work_of(node: Node, number: u32, step: Step) -> Work
 {
     match step {
         Step::Sign(sign) => Work::Piece(Piece::Sign(sign)),
-        Step::Child(slot, place) => child_work(number, child(node, slot), place),
+        Step::Child(slot, context) => child_work(number, child(node, slot), context),
     }
 }
 
-/// A token at its place: behind a dot it is a name.
-fn token_piece_of(place: Place, token: Token) -> Piece
-    ensures { result ≡ token_piece place token }
+/// A token at its context: behind a dot it is a name.
+fn token_piece_of(context: Context, token: Terminal) -> Piece
+    ensures { result ≡ token_piece context token }
 {
-    match place {
-        Place::Name => Piece::Name(token),
+    match context {
+        Context::Name => Piece::Name(token),
         _ => Piece::Token(token),
     }
 }
@@ -126,11 +126,11 @@ fn push_sign(stack: &mut Stack, sign: Option<Sign>) -> Result<(), AllocError>
 }
 
 /// Puts the token of a node before the work, if the node is one.
-fn push_token(stack: &mut Stack, node: Node, place: Place) -> Result<(), AllocError>
-    ensures { OnOk result (stack.new ≡ spec.token_work node place ++ stack.old) }
+fn push_token(stack: &mut Stack, node: Node, context: Context) -> Result<(), AllocError>
+    ensures { OnOk result (stack.new ≡ spec.token_work node context ++ stack.old) }
 {
     match node {
-        Node::Leaf(token) => stack.push(Work::Piece(token_piece_of(place, token))),
+        Node::Leaf(token) => stack.push(Work::Piece(token_piece_of(context, token))),
         _ => Ok(()),
     }
 }
@@ -145,23 +145,28 @@ fn push_steps(stack: &mut Stack, node: Node, number: u32, steps: &[Step]) -> Res
     Ok(())
 }
 
-/// Puts the work of the node of this number, at its place, before the work.
-fn expand(stack: &mut Stack, node: Node, number: u32, place: Place) -> Result<(), AllocError>
-    ensures { OnOk result (stack.new ≡ spec.expansion node number place ++ stack.old) }
+/// Puts the work of the node of this number, at its context, before the work.
+fn expand(stack: &mut Stack, node: Node, number: u32, context: Context) -> Result<(), AllocError>
+    ensures { OnOk result (stack.new ≡ spec.expansion node number context ++ stack.old) }
 {
     let rank = rank_of(node);
-    push_sign(stack, closing(place, rank))?;
-    push_steps(stack, node, number, steps_of(node, inner(place)))?;
-    push_token(stack, node, place)?;
-    push_sign(stack, opening(place, rank))
+    push_sign(stack, closing(context, rank))?;
+    push_steps(stack, node, number, steps_of(node, inner(context)))?;
+    push_token(stack, node, context)?;
+    push_sign(stack, opening(context, rank))
 }
 
-/// Puts the work of this number, at its place, before the work. Where no node has the number, there is none.
-pub fn open(stack: &mut Stack, nodes: &[Node], number: u32, place: Place) -> Result<(), AllocError>
-    ensures { OnOk result (stack.new ≡ spec.opened nodes.now number place ++ stack.old) }
+/// Puts the work of this number, at its context, before the work. Where no node has the number, there is none.
+pub fn open(
+    stack: &mut Stack,
+    nodes: &[Node],
+    number: u32,
+    context: Context,
+) -> Result<(), AllocError>
+    ensures { OnOk result (stack.new ≡ spec.opened nodes.now number context ++ stack.old) }
 {
     match nodes.get(number as usize) {
-        Some(node) => expand(stack, *node, number, place),
+        Some(node) => expand(stack, *node, number, context),
         None => Ok(()),
     }
 }

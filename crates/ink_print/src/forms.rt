@@ -3,7 +3,7 @@
 ghost use Rattle.std.specs.Prelude.{◌≡◌};
 ghost use Rattle.ink_print.specs.Table as spec;
 
-use crate::place::Place;
+use crate::context::Context;
 use crate::step::{Sign, Slot, Step};
 use ink_grammar::{FiveChildren, FourChildren, OneChild, ThreeChildren, TwoChildren};
 
@@ -41,87 +41,87 @@ const RIGHT_BRACKET: Step = Step::Sign(Sign::RightBracket);
 
 const RIGHT_PAREN: Step = Step::Sign(Sign::RightParen);
 
-const FIRST: Step = Step::Child(Slot::First, Place::Expression);
+const FIRST: Step = Step::Child(Slot::First, Context::Expression);
 
-const FIRST_AS_BASE: Step = Step::Child(Slot::First, Place::Base);
+const FIRST_AS_BASE: Step = Step::Child(Slot::First, Context::Base);
 
-const FIRST_AS_BEFORE_COMMA: Step = Step::Child(Slot::First, Place::BeforeComma);
+const FIRST_AS_BEFORE_COMMA: Step = Step::Child(Slot::First, Context::BeforeComma);
 
-const FIRST_AS_BEFORE_DOT: Step = Step::Child(Slot::First, Place::BeforeDot);
+const FIRST_AS_BEFORE_DOT: Step = Step::Child(Slot::First, Context::BeforeDot);
 
-const FIRST_AS_BEFORE_PLUS: Step = Step::Child(Slot::First, Place::BeforePlus);
+const FIRST_AS_BEFORE_PLUS: Step = Step::Child(Slot::First, Context::BeforePlus);
 
-const FIRST_AS_CHAIN: Step = Step::Child(Slot::First, Place::Chain);
+const FIRST_AS_CHAIN: Step = Step::Child(Slot::First, Context::Chain);
 
-const FIRST_AS_LINES: Step = Step::Child(Slot::First, Place::Lines);
+const FIRST_AS_LINES: Step = Step::Child(Slot::First, Context::Lines);
 
-const FIRST_AS_OPERAND: Step = Step::Child(Slot::First, Place::Operand);
+const FIRST_AS_OPERAND: Step = Step::Child(Slot::First, Context::Operand);
 
-const FIRST_AS_TEXT_PARTS: Step = Step::Child(Slot::First, Place::TextParts);
+const FIRST_AS_TEXT_PARTS: Step = Step::Child(Slot::First, Context::TextParts);
 
-const FIRST_AS_WORDS: Step = Step::Child(Slot::First, Place::Words);
+const FIRST_AS_WORDS: Step = Step::Child(Slot::First, Context::Words);
 
-const SECOND: Step = Step::Child(Slot::Second, Place::Expression);
+const SECOND: Step = Step::Child(Slot::Second, Context::Expression);
 
-const SECOND_AS_BODY: Step = Step::Child(Slot::Second, Place::Body);
+const SECOND_AS_BODY: Step = Step::Child(Slot::Second, Context::Body);
 
-const SECOND_AS_BOUNDED: Step = Step::Child(Slot::Second, Place::Bounded);
+const SECOND_AS_BOUNDED: Step = Step::Child(Slot::Second, Context::Bounded);
 
-const SECOND_AS_BRACKETED: Step = Step::Child(Slot::Second, Place::Bracketed);
+const SECOND_AS_BRACKETED: Step = Step::Child(Slot::Second, Context::Bracketed);
 
-const SECOND_AS_CHAIN: Step = Step::Child(Slot::Second, Place::Chain);
+const SECOND_AS_CHAIN: Step = Step::Child(Slot::Second, Context::Chain);
 
-const SECOND_AS_DOTTED: Step = Step::Child(Slot::Second, Place::Dotted);
+const SECOND_AS_DOTTED: Step = Step::Child(Slot::Second, Context::Dotted);
 
-const SECOND_AS_ITEMS: Step = Step::Child(Slot::Second, Place::Items);
+const SECOND_AS_ITEMS: Step = Step::Child(Slot::Second, Context::Items);
 
-const SECOND_AS_LINES: Step = Step::Child(Slot::Second, Place::Lines);
+const SECOND_AS_LINES: Step = Step::Child(Slot::Second, Context::Lines);
 
-const SECOND_AS_NAME: Step = Step::Child(Slot::Second, Place::Name);
+const SECOND_AS_NAME: Step = Step::Child(Slot::Second, Context::Name);
 
-const SECOND_AS_OPERAND: Step = Step::Child(Slot::Second, Place::Operand);
+const SECOND_AS_OPERAND: Step = Step::Child(Slot::Second, Context::Operand);
 
-const SECOND_AS_TEXT_ITEM: Step = Step::Child(Slot::Second, Place::TextItem);
+const SECOND_AS_TEXT_ITEM: Step = Step::Child(Slot::Second, Context::TextItem);
 
-const SECOND_AS_TEXT_PARTS: Step = Step::Child(Slot::Second, Place::TextParts);
+const SECOND_AS_TEXT_PARTS: Step = Step::Child(Slot::Second, Context::TextParts);
 
-const SECOND_AS_WORDS: Step = Step::Child(Slot::Second, Place::Words);
+const SECOND_AS_WORDS: Step = Step::Child(Slot::Second, Context::Words);
 
-const THIRD: Step = Step::Child(Slot::Third, Place::Expression);
+const THIRD: Step = Step::Child(Slot::Third, Context::Expression);
 
-const THIRD_AS_BODY: Step = Step::Child(Slot::Third, Place::Body);
+const THIRD_AS_BODY: Step = Step::Child(Slot::Third, Context::Body);
 
-const THIRD_AS_GUARD: Step = Step::Child(Slot::Third, Place::Guard);
+const THIRD_AS_GUARD: Step = Step::Child(Slot::Third, Context::Guard);
 
-const THIRD_AS_IMPLEMENTED: Step = Step::Child(Slot::Third, Place::Implemented);
+const THIRD_AS_IMPLEMENTED: Step = Step::Child(Slot::Third, Context::Implemented);
 
-const THIRD_AS_IMPORT_NAMES: Step = Step::Child(Slot::Third, Place::ImportNames);
+const THIRD_AS_IMPORT_NAMES: Step = Step::Child(Slot::Third, Context::ImportNames);
 
-const THIRD_AS_ITEMS: Step = Step::Child(Slot::Third, Place::Items);
+const THIRD_AS_ITEMS: Step = Step::Child(Slot::Third, Context::Items);
 
-const THIRD_AS_OPERAND: Step = Step::Child(Slot::Third, Place::Operand);
+const THIRD_AS_OPERAND: Step = Step::Child(Slot::Third, Context::Operand);
 
-const THIRD_AS_PARENTHESISED: Step = Step::Child(Slot::Third, Place::Parenthesised);
+const THIRD_AS_PARENTHESISED: Step = Step::Child(Slot::Third, Context::Parenthesised);
 
-const FOURTH: Step = Step::Child(Slot::Fourth, Place::Expression);
+const FOURTH: Step = Step::Child(Slot::Fourth, Context::Expression);
 
-const FOURTH_AS_ANNOTATED: Step = Step::Child(Slot::Fourth, Place::Annotated);
+const FOURTH_AS_ANNOTATED: Step = Step::Child(Slot::Fourth, Context::Annotated);
 
-const FOURTH_AS_BODY: Step = Step::Child(Slot::Fourth, Place::Body);
+const FOURTH_AS_BODY: Step = Step::Child(Slot::Fourth, Context::Body);
 
-const FOURTH_AS_BRACKETED: Step = Step::Child(Slot::Fourth, Place::Bracketed);
+const FOURTH_AS_BRACKETED: Step = Step::Child(Slot::Fourth, Context::Bracketed);
 
-const FOURTH_AS_OTHERWISE: Step = Step::Child(Slot::Fourth, Place::Otherwise);
+const FOURTH_AS_OTHERWISE: Step = Step::Child(Slot::Fourth, Context::Otherwise);
 
-const FOURTH_AS_PARENTHESISED: Step = Step::Child(Slot::Fourth, Place::Parenthesised);
+const FOURTH_AS_PARENTHESISED: Step = Step::Child(Slot::Fourth, Context::Parenthesised);
 
-const FOURTH_AS_RETURNED: Step = Step::Child(Slot::Fourth, Place::Returned);
+const FOURTH_AS_RETURNED: Step = Step::Child(Slot::Fourth, Context::Returned);
 
-const FIFTH: Step = Step::Child(Slot::Fifth, Place::Expression);
+const FIFTH: Step = Step::Child(Slot::Fifth, Context::Expression);
 
-const FIFTH_AS_BODY: Step = Step::Child(Slot::Fifth, Place::Body);
+const FIFTH_AS_BODY: Step = Step::Child(Slot::Fifth, Context::Body);
 
-const FIFTH_AS_RETURNED: Step = Step::Child(Slot::Fifth, Place::Returned);
+const FIFTH_AS_RETURNED: Step = Step::Child(Slot::Fifth, Context::Returned);
 
 const CHAIN_STATEMENT: &[Step] = &[FIRST_AS_CHAIN];
 
@@ -277,40 +277,40 @@ const TRAIT_METHOD: &[Step] = &[
 ];
 
 /// What a statement is printed as.
-fn statement(place: Place) -> &'static [Step]
-    ensures { result.now ≡ spec.statement place }
+fn statement(context: Context) -> &'static [Step]
+    ensures { result.now ≡ spec.statement context }
 {
-    match place {
-        Place::Chain => CHAIN_STATEMENT,
-        Place::Operand => OPERAND_STATEMENT,
-        Place::Base => BASE_STATEMENT,
+    match context {
+        Context::Chain => CHAIN_STATEMENT,
+        Context::Operand => OPERAND_STATEMENT,
+        Context::Base => BASE_STATEMENT,
         _ => PLAIN_STATEMENT,
     }
 }
 
 /// What a list and one more item are printed as.
-fn more(place: Place) -> &'static [Step]
-    ensures { result.now ≡ spec.more place }
+fn more(context: Context) -> &'static [Step]
+    ensures { result.now ≡ spec.more context }
 {
-    match place {
-        Place::Lines => LINES,
-        Place::Dotted => DOTTED,
-        Place::BeforeDot => BEFORE_DOT,
-        Place::Items => ITEMS,
-        Place::BeforeComma => BEFORE_COMMA,
-        Place::Bounds => BOUNDS,
-        Place::BeforePlus => BEFORE_PLUS,
-        Place::TextParts => TEXT_PARTS,
+    match context {
+        Context::Lines => LINES,
+        Context::Dotted => DOTTED,
+        Context::BeforeDot => BEFORE_DOT,
+        Context::Items => ITEMS,
+        Context::BeforeComma => BEFORE_COMMA,
+        Context::Bounds => BOUNDS,
+        Context::BeforePlus => BEFORE_PLUS,
+        Context::TextParts => TEXT_PARTS,
         _ => WORDS,
     }
 }
 
-/// What a form with two children is printed as, at its place.
-pub fn two(form: TwoChildren, place: Place) -> &'static [Step]
-    ensures { result.now ≡ spec.two form place }
+/// What a form with two children is printed as, at its context.
+pub fn two(form: TwoChildren, context: Context) -> &'static [Step]
+    ensures { result.now ≡ spec.two form context }
 {
     match form {
-        TwoChildren::More => more(place),
+        TwoChildren::More => more(context),
         TwoChildren::Module => MODULE,
         TwoChildren::TypeParameter => TYPE_PARAMETER,
         TwoChildren::Parameter => WITH_COLON,
@@ -387,11 +387,11 @@ pub fn five(form: FiveChildren) -> &'static [Step]
     }
 }
 
-/// What a form with one child is printed as, at its place.
-pub fn one(form: OneChild, place: Place) -> &'static [Step]
-    ensures { result.now ≡ spec.one form place }
+/// What a form with one child is printed as, at its context.
+pub fn one(form: OneChild, context: Context) -> &'static [Step]
+    ensures { result.now ≡ spec.one form context }
 {
     match form {
-        OneChild::Statement => statement(place),
+        OneChild::Statement => statement(context),
     }
 }

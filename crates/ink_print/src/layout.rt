@@ -6,7 +6,7 @@ ghost use Rattle.ink_print.specs.declared.class.Class.TheVariants as class;
 
 use crate::class::{Class, class_of, depth_at, depth_behind, is_spaced};
 use crate::step::{Piece, Sign};
-use ink_grammar::Token;
+use ink_grammar::Terminal;
 use std::alloc::{AllocError, Global};
 
 /// The bytes of a sign.
@@ -41,7 +41,7 @@ fn sign_text(sign: Sign) -> &'static [u8]
 }
 
 /// The bytes of a token. Where it isn't inside the source, there are none.
-fn token_text(source: &[u8], token: Token) -> &[u8]
+fn token_text(source: &[u8], token: Terminal) -> &[u8]
     ensures { result.now ≡ spec.token_text source.now token }
 {
     let start = token.start as usize;

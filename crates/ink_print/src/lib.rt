@@ -8,10 +8,10 @@
 #![tactic(auto)]
 
 mod class;
+mod context;
 mod expand;
 mod forms;
 mod layout;
-mod place;
 mod print;
 mod printer;
 mod step;
@@ -25,5 +25,5 @@ pub use printer::pieces;
 
 // The words of the definitions, for the laws of the rooms above.
 pub use class::Class;
-pub use place::{Place, Rank};
+pub use context::{Context, Rank};
 pub use step::{Piece, Sign, Slot, Step};

@@ -4,8 +4,8 @@ ghost use Rattle.std.specs.Prelude.{◌≡◌, IfOk};
 ghost use Rattle.ink_grammar.specs.Views as view;
 ghost use Rattle.ink_print.specs.Printed as spec;
 
+use crate::context::Context;
 use crate::expand::open;
-use crate::place::Place;
 use crate::step::Piece;
 use crate::work::{Stack, Work};
 use ink_grammar::Module;
@@ -18,12 +18,12 @@ pub fn pieces(alloc: Global, tree: &Module) -> Result<Vec<Piece>, AllocError>
     let nodes = tree.nodes();
     let mut printed = Vec::new(alloc);
     let mut stack = Stack::new(alloc);
-    stack.push(Work::Node(tree.root(), Place::Expression))?;
+    stack.push(Work::Node(tree.root(), Context::Expression))?;
     while let Some(work) = stack.pop() {
         match work {
             Work::Nothing => {}
             Work::Piece(piece) => printed.push(piece)?,
-            Work::Node(number, place) => open(&mut stack, nodes, number, place)?,
+            Work::Node(number, context) => open(&mut stack, nodes, number, context)?,
         }
     }
     Ok(printed)

@@ -1,7 +1,7 @@
 //! The pieces of a print, and the steps in which a node is printed.
 
-use crate::place::Place;
-use ink_grammar::Token;
+use crate::context::Context;
+use ink_grammar::Terminal;
 
 /// A mark or a word that the tree doesn't keep, or the end of a line.
 #[derive(Clone, Copy)]
@@ -40,9 +40,9 @@ pub enum Sign {
 #[derive(Clone, Copy)]
 pub enum Piece {
     /// A token of the source.
-    Token(Token),
+    Token(Terminal),
     /// A token of the source that is a name where it stands, keywords included.
-    Name(Token),
+    Name(Terminal),
     Sign(Sign),
 }
 
@@ -56,9 +56,9 @@ pub enum Slot {
     Fifth,
 }
 
-/// A step in which a node is printed: a sign, or a child at its place.
+/// A step in which a node is printed: a sign, or a child at its context.
 #[derive(Clone, Copy)]
 pub enum Step {
     Sign(Sign),
-    Child(Slot, Place),
+    Child(Slot, Context),
 }

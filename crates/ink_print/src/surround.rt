@@ -1,10 +1,10 @@
-//! What stands round a part at its place: the parentheses that the grammar asks for, and the signs before and behind a
+//! What stands round a part at its context: the parentheses that the grammar asks for, and the signs before and behind a
 //! part that may be left out.
 
 ghost use Rattle.std.specs.Prelude.{◌≡◌};
 ghost use Rattle.ink_print.specs.Surround as spec;
 
-use crate::place::{Place, Rank};
+use crate::context::{Context, Rank};
 use crate::step::Sign;
 use ink_grammar::{Keyword, Shape, ThreeChildren, TwoChildren};
 
@@ -46,97 +46,97 @@ pub fn rank_of_three(form: ThreeChildren) -> Rank
 }
 
 /// Whether the grammar doesn't derive a part of this rank there without parentheses.
-fn needs_parentheses(place: Place, rank: Rank) -> bool
-    ensures { result ≡ spec.needs_parentheses place rank }
+fn needs_parentheses(context: Context, rank: Rank) -> bool
+    ensures { result ≡ spec.needs_parentheses context rank }
 {
-    match place {
-        Place::Chain => matches!(rank, Rank::Expression),
-        Place::Operand => matches!(rank, Rank::Expression | Rank::Chain),
-        Place::Base => matches!(rank, Rank::Expression | Rank::Chain | Rank::Operand),
+    match context {
+        Context::Chain => matches!(rank, Rank::Expression),
+        Context::Operand => matches!(rank, Rank::Expression | Rank::Chain),
+        Context::Base => matches!(rank, Rank::Expression | Rank::Chain | Rank::Operand),
         _ => false,
     }
 }
 
 /// The sign before a part that stands there, parentheses aside.
-fn introduction(place: Place, rank: Rank) -> Option<Sign>
-    ensures { result ≡ spec.introduction place rank }
+fn introduction(context: Context, rank: Rank) -> Option<Sign>
+    ensures { result ≡ spec.introduction context rank }
 {
-    match place {
-        Place::Body => match rank {
+    match context {
+        Context::Body => match rank {
             Rank::NoItems => None,
             _ => Some(Sign::Line),
         },
-        Place::TextItem => match rank {
+        Context::TextItem => match rank {
             Rank::TextPart => None,
             _ => Some(Sign::TextOpening),
         },
-        Place::Bracketed => Some(Sign::LeftBracket),
-        Place::Parenthesised => Some(Sign::LeftParen),
-        Place::ImportNames => Some(Sign::ImportParen),
-        Place::Bounded => Some(Sign::Colon),
-        Place::Annotated => Some(Sign::Colon),
-        Place::Returned => Some(Sign::Arrow),
-        Place::Implemented => Some(Sign::For),
-        Place::Otherwise => Some(Sign::Else),
-        Place::Guard => Some(Sign::If),
+        Context::Bracketed => Some(Sign::LeftBracket),
+        Context::Parenthesised => Some(Sign::LeftParen),
+        Context::ImportNames => Some(Sign::ImportParen),
+        Context::Bounded => Some(Sign::Colon),
+        Context::Annotated => Some(Sign::Colon),
+        Context::Returned => Some(Sign::Arrow),
+        Context::Implemented => Some(Sign::For),
+        Context::Otherwise => Some(Sign::Else),
+        Context::Guard => Some(Sign::If),
         _ => None,
     }
 }
 
 /// The sign behind a part that stands there, parentheses aside.
-fn conclusion(place: Place, rank: Rank) -> Option<Sign>
-    ensures { result ≡ spec.conclusion place rank }
+fn conclusion(context: Context, rank: Rank) -> Option<Sign>
+    ensures { result ≡ spec.conclusion context rank }
 {
-    match place {
-        Place::TextItem => match rank {
+    match context {
+        Context::TextItem => match rank {
             Rank::TextPart => None,
             _ => Some(Sign::TextClosing),
         },
-        Place::Bracketed => Some(Sign::RightBracket),
-        Place::Parenthesised => Some(Sign::RightParen),
-        Place::ImportNames => Some(Sign::RightParen),
+        Context::Bracketed => Some(Sign::RightBracket),
+        Context::Parenthesised => Some(Sign::RightParen),
+        Context::ImportNames => Some(Sign::RightParen),
         _ => None,
     }
 }
 
 /// The sign before a part that stands there, if it asks for one.
-pub fn opening(place: Place, rank: Rank) -> Option<Sign>
-    ensures { result ≡ spec.opening place rank }
+pub fn opening(context: Context, rank: Rank) -> Option<Sign>
+    ensures { result ≡ spec.opening context rank }
 {
-    if needs_parentheses(place, rank) {
+    if needs_parentheses(context, rank) {
         Some(Sign::LeftParen)
     } else {
-        introduction(place, rank)
+        introduction(context, rank)
     }
 }
 
 /// The sign behind a part that stands there, if it asks for one.
-pub fn closing(place: Place, rank: Rank) -> Option<Sign>
-    ensures { result ≡ spec.closing place rank }
+pub fn closing(context: Context, rank: Rank) -> Option<Sign>
+    ensures { result ≡ spec.closing context rank }
 {
-    if needs_parentheses(place, rank) {
+    if needs_parentheses(context, rank) {
         Some(Sign::RightParen)
     } else {
-        conclusion(place, rank)
+        conclusion(context, rank)
     }
 }
 
-/// The place between the two signs.
-pub fn inner(place: Place) -> Place
-    ensures { result ≡ spec.inner place }
+/// The context between the two signs.
+pub fn inner(context: Context) -> Context
+    ensures { result ≡ spec.inner context }
 {
-    match place {
-        Place::Body => Place::Lines,
-        Place::TextItem => Place::Expression,
-        Place::Bracketed => Place::Items,
-        Place::Parenthesised => Place::Items,
-        Place::ImportNames => Place::Items,
-        Place::Bounded => Place::Bounds,
-        Place::Annotated => Place::Expression,
-        Place::Returned => Place::Expression,
-        Place::Implemented => Place::Expression,
-        Place::Otherwise => Place::Expression,
-        Place::Guard => Place::Chain,
-        _ => place,
+    match context {
+        Context::Body => Context::Lines,
+        Context::TextItem => Context::Expression,
+        Context::Bracketed => Context::Items,
+        Context::Parenthesised => Context::Items,
+        Context::ImportNames => Context::Items,
+        Context::Bounded => Context::Bounds,
+        Context::Annotated => Context::Expression,
+        Context::Returned => Context::Expression,
+        Context::Implemented => Context::Expression,
+        Context::Otherwise => Context::Expression,
+        Context::Guard => Context::Chain,
+        _ => context,
     }
 }

@@ -3,7 +3,7 @@
 
 use crate::print::print_module;
 use ink_base::Text;
-use ink_grammar::{Keyword, Mark, Shape, Token, parse};
+use ink_grammar::{Keyword, Mark, Shape, Terminal, parse};
 use std::alloc::Global;
 use std::test::Fail;
 
@@ -86,13 +86,13 @@ fn shape_of(word: &[u8]) -> Shape {
 }
 
 /// The token of this word, which ends at a byte of the source.
-fn token_of(word: &[u8], start: usize, end: usize, new_line: bool) -> Result<Token, Fail> {
+fn token_of(word: &[u8], start: usize, end: usize, new_line: bool) -> Result<Terminal, Fail> {
     let hidden = if word.first().copied() == Some(b'~') {
         1
     } else {
         0
     };
-    Ok(Token {
+    Ok(Terminal {
         shape: shape_of(word),
         start: u32::try_from(start)?.saturating_add(hidden),
         end: u32::try_from(end)?,
@@ -100,7 +100,7 @@ fn token_of(word: &[u8], start: usize, end: usize, new_line: bool) -> Result<Tok
     })
 }
 
-fn tokens_of(alloc: Global, source: &[u8]) -> Result<Vec<Token>, Fail> {
+fn tokens_of(alloc: Global, source: &[u8]) -> Result<Vec<Terminal>, Fail> {
     let mut tokens = Vec::new(alloc);
     let mut start: usize = 0;
     let mut new_line = false;

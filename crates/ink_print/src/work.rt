@@ -3,7 +3,7 @@
 ghost use Rattle.std.specs.Prelude.{◌≡◌, ◌++◌, ◌∷◌, ◌≤◌, [], List, length, MatchOption, OnOk, drop, reverse};
 ghost use Rattle.ink_print.specs.declared.work.Work.{Work};
 
-use crate::place::Place;
+use crate::context::Context;
 use crate::step::Piece;
 use std::alloc::{AllocError, Global};
 use std::marker::Model;
@@ -14,8 +14,8 @@ pub enum Work {
     /// What is no node's.
     Nothing,
     Piece(Piece),
-    /// The node of this number, at its place.
-    Node(u32, Place),
+    /// The node of this number, at its context.
+    Node(u32, Context),
 }
 
 /// The work that is still to do.

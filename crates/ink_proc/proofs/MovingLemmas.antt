@@ -50,12 +50,12 @@ padded_all most values enough =
     let none : most - length values ≡ 0 = omega arith in
     ap (λ count. values ++ replicate count Empty) none ∙ append-nil values
 
-wrong_place : (had : Option Value) → where_there {A = List Value} had (Err wrong.Place) ≡ Err wrong.Place
+wrong_place : (had : Option Value) → where_there {A = List Value} had (Err wrong.Absent) ≡ Err wrong.Absent
 wrong_place None = refl
 wrong_place (Some value) = refl
 
 -- values and registers that are not as many
-pub given_apart : (numbers : List ℕ) (values registers : List Value) → length numbers ≢ length values → given_out numbers values registers ≡ Err wrong.Place
+pub given_apart : (numbers : List ℕ) (values registers : List Value) → length numbers ≢ length values → given_out numbers values registers ≡ Err wrong.Absent
 given_apart [] [] registers differ = elim (differ refl) [ ]
 given_apart [] (value ∷ values) registers differ = refl
 given_apart (number ∷ numbers) [] registers differ = refl

@@ -118,12 +118,12 @@ impl Frames {
         ensures err { OnErr result (self.new ≡ self.old) }
     {
         match self.register(number) {
-            None => return Err(Wrong::Place),
+            None => return Err(Wrong::Absent),
             Some(Value::Empty) => return Err(Wrong::Empty),
             Some(_) => {}
         }
         match self.set(number, Value::Empty) {
-            None => Err(Wrong::Place),
+            None => Err(Wrong::Absent),
             Some(value) => Ok(value),
         }
     }
@@ -244,7 +244,7 @@ impl Frames {
     {
         let count = self.items.len();
         if count == 0 {
-            return Err(Wrong::Place);
+            return Err(Wrong::Absent);
         }
         let frame = &mut self.items[count - 1];
         move_in(&mut frame.registers, numbers, values)
@@ -318,7 +318,7 @@ fn take_from_last(
 {
     let count = items.len();
     if count == 0 {
-        return Err(Wrong::Place);
+        return Err(Wrong::Absent);
     }
     let frame = &mut items[count - 1];
     move_out(&mut frame.registers, room, numbers)

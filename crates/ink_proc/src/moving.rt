@@ -16,7 +16,7 @@ pub(crate) fn take_held(registers: &mut Items<Value>, number: u32) -> Result<Val
     ensures err { OnErr result (registers.new ≡ registers.old) }
 {
     match registers.get(u64::from(number)) {
-        None => Err(Wrong::Place),
+        None => Err(Wrong::Absent),
         Some(Value::Empty) => Err(Wrong::Empty),
         Some(_) => Ok(registers.set(u64::from(number), Value::Empty)),
     }
@@ -90,7 +90,7 @@ fn put_there(registers: &mut Items<Value>, number: u32, value: Value) -> Result<
     ensures { IsPutAnswer result registers.new (given_out (number ∷ []) (value ∷ []) registers.old) }
 {
     if u64::from(number) >= registers.len() {
-        return Err(Wrong::Place);
+        return Err(Wrong::Absent);
     }
     registers.set(u64::from(number), value);
     Ok(())
@@ -105,7 +105,7 @@ pub(crate) fn move_in(
     ensures { IsPutAnswer result registers.new (given_out numbers.now values registers.old) }
 {
     if numbers.len() as u64 != values.len() {
-        return Err(Wrong::Place);
+        return Err(Wrong::Absent);
     }
     for (place, number) in numbers.iter().enumerate() {
         let value = values.set(place as u64, Value::Empty);

@@ -37,7 +37,7 @@ fn registers_of_the_innermost_frame(rt: HostRuntime) -> Result<(), Fail> {
     assert!(rt; is_int(frames.register(0), 5));
     assert!(rt; matches!(frames.take(0), Ok(Value::Int(5))));
     assert!(rt; matches!(frames.take(0), Err(Wrong::Empty)));
-    assert!(rt; matches!(frames.take(2), Err(Wrong::Place)));
+    assert!(rt; matches!(frames.take(2), Err(Wrong::Absent)));
     assert!(rt; matches!(frames.set(0, Value::Nil), Some(Value::Empty)));
     frames.go_on(7);
     let inner = frames.pop();
@@ -60,7 +60,7 @@ fn registers_of_the_innermost_frame(rt: HostRuntime) -> Result<(), Fail> {
 fn a_call_and_what_it_moves(rt: HostRuntime) -> Result<(), Fail> {
     let mut frames = Frames::new(rt.alloc());
     let early = frames.enter(rt.alloc(), 9, 3, &[]);
-    assert!(rt; matches!(early, Err(EnterFault::Wrong(Wrong::Place))));
+    assert!(rt; matches!(early, Err(EnterFault::Wrong(Wrong::Absent))));
     frames.push(frame(rt.alloc(), 8, (1, 2))?)?;
     assert!(rt; frames.enter(rt.alloc(), 9, 3, &[1, 0]).is_ok());
     assert!(rt; is_int(frames.register(0), 2));

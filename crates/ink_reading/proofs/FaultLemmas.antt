@@ -3,7 +3,7 @@ use Rattle.std.proofs.Common.{◌≡◌, ℕ, ◌+◌, ◌<◌, ◌≤◌, nat_l
 use Rattle.std.proofs.lemmas.Bool.{ltb-true, ltb-false}
 use Rattle.std.proofs.lemmas.List.{take-append-drop, take_all, take-take}
 use Rattle.ink_text.specs.Utf8.{Utf8, StopsAt}
-use Rattle.ink_grammar.specs.declared.token.Token.{Token}
+use Rattle.ink_grammar.specs.declared.token.Terminal.{Terminal}
 use Rattle.ink_grammar.specs.declared.parser.ParseError.TheVariants.{Unexpected}
 use Rattle.ink_grammar.specs.Tree.{Tree}
 use Rattle.ink_grammar.specs.Language.{Parses, Begins}
@@ -30,18 +30,18 @@ stops-same source one other stops_one stops_other =
     (λ more. stops_other.longest one more stops_one.before)
 
 -- what begins a module does so for each of its tokens
-begins-all : (tokens : List Token) (count : ℕ) (tree : Tree) → Parses tokens tree → Begins (take count tokens)
+begins-all : (tokens : List Terminal) (count : ℕ) (tree : Tree) → Parses tokens tree → Begins (take count tokens)
 begins-all tokens count tree parses =
     (drop count tokens, tree, subst (λ ts. Parses ts tree) (sym (take-append-drop count tokens)) parses)
 
 -- tokens with a fault are no module
-pub fault-not : (tokens : List Token) (number : ℕ) (tree : Tree) → IsFault tokens (Unexpected number) → Parses tokens tree → ⊥
+pub fault-not : (tokens : List Terminal) (number : ℕ) (tree : Tree) → IsFault tokens (Unexpected number) → Parses tokens tree → ⊥
 fault-not tokens number tree (inside, before, next, end) parses =
     ⊎_elim (λ less. next less (begins-all tokens (number + 1) tree parses))
     (λ most. let last : number ≡ length tokens = omega arith in end last tree parses) (below_or_not number (length tokens))
 
 -- fewer of the tokens, and then the others
-split : (tokens : List Token) (fewer count : ℕ) (more : List Token) → fewer ≤ count →
+split : (tokens : List Terminal) (fewer count : ℕ) (more : List Terminal) → fewer ≤ count →
     take count tokens ++ more ≡ take fewer tokens ++ (drop fewer (take count tokens) ++ more)
 split tokens fewer count more less =
     ap (λ ts. ts ++ more) (sym (take-append-drop fewer (take count tokens)))
@@ -49,15 +49,15 @@ split tokens fewer count more less =
     ∙ ap (λ ts. ts ++ (drop fewer (take count tokens) ++ more)) (take-take fewer count tokens less)
 
 -- what begins a module still does with fewer tokens
-begins-fewer : (tokens : List Token) (fewer count : ℕ) → fewer ≤ count → Begins (take count tokens) → Begins (take fewer tokens)
+begins-fewer : (tokens : List Terminal) (fewer count : ℕ) → fewer ≤ count → Begins (take count tokens) → Begins (take fewer tokens)
 begins-fewer tokens fewer count less (more, tree, parses) =
     (drop fewer (take count tokens) ++ more, tree, subst (λ ts. Parses ts tree) (split tokens fewer count more less) parses)
 
-fault-before : (tokens : List Token) (one other : ℕ) → IsFault tokens (Unexpected one) → IsFault tokens (Unexpected other) →
+fault-before : (tokens : List Terminal) (one other : ℕ) → IsFault tokens (Unexpected one) → IsFault tokens (Unexpected other) →
     one < other → ⊥
 fault-before tokens one other (inside, before, next, end) (inside_other, before_other, next_other, end_other) less =
     next (omega arith) (begins-fewer tokens (one + 1) other (omega arith) before_other)
 
-pub fault-same : (tokens : List Token) (one other : ℕ) → IsFault tokens (Unexpected one) → IsFault tokens (Unexpected other) → one ≡ other
+pub fault-same : (tokens : List Terminal) (one other : ℕ) → IsFault tokens (Unexpected one) → IsFault tokens (Unexpected other) → one ≡ other
 fault-same tokens one other fault_one fault_other =
     same_number one other (fault-before tokens one other fault_one fault_other) (fault-before tokens other one fault_other fault_one)

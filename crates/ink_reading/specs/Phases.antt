@@ -7,7 +7,7 @@ use Rattle.ink_base.specs.declared.refusal.Refusal.{Refusal}
 use Rattle.ink_base.specs.declared.refusal.JudgeFault.{JudgeFault}
 use Rattle.ink_base.specs.declared.refusal.JudgeFault.TheVariants.{Refused, OutOfMemory}
 use Rattle.ink_text.specs.Place.{place_at}
-use Rattle.ink_grammar.specs.declared.token.Token as seen
+use Rattle.ink_grammar.specs.declared.token.Terminal as seen
 use Rattle.ink_grammar.specs.declared.tree.Module.{Module}
 use Rattle.ink_grammar.specs.declared.parser.ParseError.TheVariants.{Unexpected}
 use Rattle.ink_grammar.specs.Language.{Parses}
@@ -22,7 +22,7 @@ abbrev pub broken : List ℕ → Rule → ℕ → Refusal
 broken source rule byte = record { rule = rule; place = place_at source byte; detail = None }
 
 -- the tokens as the grammar sees them
-abbrev pub seen_by_grammar : List ℕ → List Token → List seen.Token
+abbrev pub seen_by_grammar : List ℕ → List Token → List seen.Terminal
 seen_by_grammar source tokens = map (shaped source) tokens
 
 -- where a token begins, and the end of the source where there is none

@@ -10,7 +10,7 @@ use Rattle.ink_grammar.specs.Language.{Parses}
 use Rattle.ink_reading.specs.Phases.{seen_by_grammar}
 use Rattle.ink_reading.specs.Reading.{ComesOnlyTo, Reads, Refuses}
 use Rattle.ink_print.specs.Layout.{print as canonical}
-use Rattle.ink_sorts.specs.Alike.{Alike}
+use Rattle.ink_law_categories.specs.Alike.{Alike}
 
 -- the text has tokens that are a module, whose tree is this one but for the places of its tokens
 pub record ReadsBack (source text : List ℕ) (tree : Tree) : Type 0 where

@@ -8,10 +8,10 @@ ghost use Rattle.ink_reading.specs.Phases.{seen_by_grammar};
 ghost use Rattle.ink_print.specs.Layout.{print};
 ghost use Rattle.ink_round.specs.ReadsBack.{ReadsBack};
 
-use ink_nests::tokens_nest;
-use ink_relex::print_lexes;
-use ink_reparse::print_parses;
-use ink_sorts::sorted_trees;
+use ink_law_categories::well_formed_trees;
+use ink_law_nesting::tokens_nest;
+use ink_law_parsing::print_parses;
+use ink_law_scanning::print_lexes;
 
 /// A law on sources and their prints: where a source has tokens and a tree, the canonical print of that tree has tokens,
 /// these are a module, and its tree is the same but for the places of its tokens. It does nothing when it runs.
@@ -20,7 +20,7 @@ pub fn print_reads_back()
         AreTokens source tokens → Parses (seen_by_grammar source tokens) tree → ReadsBack source (print source tree) tree }
 {
     tokens_nest();
-    sorted_trees();
+    well_formed_trees();
     print_lexes();
     print_parses();
 }

@@ -67,6 +67,6 @@ pub fn bool_row(alloc: Global, row: u32, values: &[Value]) -> Result<Computed, R
         18 => differs(values),
         19 => opposite(values),
         20 => to_string(alloc, values),
-        _ => Err(RowFault::Wrong(Wrong::Place)),
+        _ => Err(RowFault::Wrong(Wrong::Absent)),
     }
 }

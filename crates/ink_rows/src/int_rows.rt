@@ -229,6 +229,6 @@ pub fn int_row(alloc: Global, row: u32, values: &[Value]) -> Result<Computed, Ro
         14 => shift_up(alloc, values),
         15 => shift_down(alloc, values),
         16 => to_string(alloc, values),
-        _ => Err(RowFault::Wrong(Wrong::Place)),
+        _ => Err(RowFault::Wrong(Wrong::Absent)),
     }
 }

@@ -13,10 +13,10 @@ pub fn single(values: &[Value]) -> Result<&Value, Wrong>
     ensures { MatchResult result (λ value. single values.now ≡ Ok value.now) (λ why. single values.now ≡ Err why) }
 {
     match values.split_first() {
-        None => Err(Wrong::Place),
+        None => Err(Wrong::Absent),
         Some((value, others)) => match others.split_first() {
             None => Ok(value),
-            Some(_) => Err(Wrong::Place),
+            Some(_) => Err(Wrong::Absent),
         },
     }
 }
@@ -26,14 +26,14 @@ pub fn pair(values: &[Value]) -> Result<(&Value, &Value), Wrong>
     ensures { MatchResult result (λ both. pair values.now ≡ Ok (both.0.now, both.1.now)) (λ why. pair values.now ≡ Err why) }
 {
     let Some((one, others)) = values.split_first() else {
-        return Err(Wrong::Place);
+        return Err(Wrong::Absent);
     };
     let Some((other, more)) = others.split_first() else {
-        return Err(Wrong::Place);
+        return Err(Wrong::Absent);
     };
     match more.split_first() {
         None => Ok((one, other)),
-        Some(_) => Err(Wrong::Place),
+        Some(_) => Err(Wrong::Absent),
     }
 }
 

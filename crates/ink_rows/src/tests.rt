@@ -130,7 +130,7 @@ fn rows_of_one_operand(rt: HostRuntime) -> Result<(), Fail> {
         (25, text(rt.alloc(), b" ")?, Want::Bool(false)),
         (28, text(rt.alloc(), b"ink")?, Want::Text(b"ink")),
         (28, Value::Int(1), Want::Bad(Wrong::Kind)),
-        (0, Value::Int(1), Want::Bad(Wrong::Place)),
+        (0, Value::Int(1), Want::Bad(Wrong::Absent)),
     ] {
         assert!(rt; row < 29);
         let came = value_row(rt.alloc(), &limits, row, &[value]);
@@ -198,7 +198,7 @@ fn operands_of_another_kind(rt: HostRuntime) {
             Want::Bad(Wrong::Kind),
         ),
         (3, [Value::Int(1), Value::Empty], Want::Bad(Wrong::Kind)),
-        (16, [Value::Int(1), Value::Int(2)], Want::Bad(Wrong::Place)),
+        (16, [Value::Int(1), Value::Int(2)], Want::Bad(Wrong::Absent)),
         (
             17,
             [Value::Bool(false), Value::Bool(false)],
@@ -211,7 +211,7 @@ fn operands_of_another_kind(rt: HostRuntime) {
         ),
         (18, [Value::Bool(false), Value::Nil], Want::Bad(Wrong::Kind)),
         (21, [Value::Nil, Value::Nil], Want::Bad(Wrong::Kind)),
-        (24, [Value::Nil, Value::Nil], Want::Bad(Wrong::Place)),
+        (24, [Value::Nil, Value::Nil], Want::Bad(Wrong::Absent)),
     ] {
         assert!(rt; row < 29);
         let came = value_row(rt.alloc(), &limits, row, &values);

@@ -127,6 +127,6 @@ pub fn text_row(
         26 => byte(alloc, values),
         27 => starts_with(values),
         28 => to_string(alloc, values),
-        _ => Err(RowFault::Wrong(Wrong::Place)),
+        _ => Err(RowFault::Wrong(Wrong::Absent)),
     }
 }

@@ -10,7 +10,7 @@ use Rattle.ink_grammar.specs.declared.token.Mark.{Mark}
 use Rattle.ink_grammar.specs.declared.token.Mark.TheVariants.{Operator}
 use Rattle.ink_grammar.specs.declared.token.Shape.{Shape}
 use Rattle.ink_grammar.specs.declared.token.Shape.TheVariants as shape
-use Rattle.ink_grammar.specs.declared.token.Token.{Token}
+use Rattle.ink_grammar.specs.declared.token.Terminal.{Terminal}
 use Rattle.ink_shapes.specs.Keywords.{keyword_of}
 use Rattle.ink_shapes.specs.Marks.{mark_of}
 
@@ -47,6 +47,6 @@ abbrev pub shape_of : List ℕ → scanned.Token → Shape
 shape_of source token = shape_by token.kind (token_text token source)
 
 -- a token of a source as the grammar sees it
-abbrev pub shaped : List ℕ → scanned.Token → Token
+abbrev pub shaped : List ℕ → scanned.Token → Terminal
 shaped source token =
     record { shape = shape_of source token; start = token.start; end = token.end; new_line = token.new_line }

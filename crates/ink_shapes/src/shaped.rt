@@ -6,7 +6,7 @@ ghost use Rattle.ink_shapes.specs.Shaped as spec;
 use crate::keyword::keyword_of;
 use crate::mark::mark_of;
 use ink_base::TokenKind;
-use ink_grammar::{Keyword, Mark, Shape, Token};
+use ink_grammar::{Keyword, Mark, Shape, Terminal};
 use std::alloc::{AllocError, Global};
 
 /// Whether the integer is written in decimal or in hexadecimal digits.
@@ -70,11 +70,11 @@ pub fn shape_of(source: &[u8], token: &ink_base::Token) -> Shape
     shape_by(token.kind, token.text(source))
 }
 
-fn shaped(source: &[u8], token: &ink_base::Token) -> Token
+fn shaped(source: &[u8], token: &ink_base::Token) -> Terminal
     requires { IsInside source.now token.now }
     ensures { result ≡ spec.shaped source.now token.now }
 {
-    Token {
+    Terminal {
         shape: shape_of(source, token),
         start: token.start,
         end: token.end,
@@ -87,7 +87,7 @@ pub fn shapes(
     alloc: Global,
     source: &[u8],
     tokens: &[ink_base::Token],
-) -> Result<Vec<Token>, AllocError>
+) -> Result<Vec<Terminal>, AllocError>
     requires { All (IsInside source.now) tokens.now }
     ensures { IfOk result (λ them. them.items ≡ map (spec.shaped source.now) tokens.now) }
 {

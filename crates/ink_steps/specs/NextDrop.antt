@@ -9,5 +9,5 @@ use Rattle.ink_code.specs.Process.{Process}
 
 -- the drop of the first of the values that wait
 abbrev pub first_drop : Code → List Value → Process → Outcome
-first_drop code [] p = Err wrong.Place
+first_drop code [] p = Err wrong.Absent
 first_drop code (value ∷ left) p = drop_next code value left p

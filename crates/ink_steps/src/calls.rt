@@ -29,10 +29,10 @@ pub fn invoke_step(
     ensures { Answers (invoke_step code.now limits.now to method arguments.now (state_of proc.old)) result (state_of proc.old) (state_of proc.new) }
 {
     if !proc.frames.has(to) {
-        return Err(StepFault::Wrong(Wrong::Place));
+        return Err(StepFault::Wrong(Wrong::Absent));
     }
     let called = match code.methods.get(u64::from(method)) {
-        None => return Err(StepFault::Wrong(Wrong::Place)),
+        None => return Err(StepFault::Wrong(Wrong::Absent)),
         Some(called) => called,
     };
     if let Some(text) = reached_text(alloc, limits, Limit::Frames, proc.frames.len())? {
@@ -90,7 +90,7 @@ pub fn invoke_bound_step(
     ensures { Answers (invoke_bound_step code.now limits.now to slot arguments.now (state_of proc.old)) result (state_of proc.old) (state_of proc.new) }
 {
     let first = match first_register(arguments) {
-        None => return Err(StepFault::Wrong(Wrong::Place)),
+        None => return Err(StepFault::Wrong(Wrong::Absent)),
         Some(first) => first,
     };
     let named = copied(alloc, &proc.frames, first)?;
@@ -100,7 +100,7 @@ pub fn invoke_bound_step(
         Some((kind, _tag)) => kind,
     };
     match method_in(code.impls.as_slice(), kind, slot) {
-        None => Err(StepFault::Wrong(Wrong::Place)),
+        None => Err(StepFault::Wrong(Wrong::Absent)),
         Some(method) => invoke_step(alloc, proc, code, limits, to, method, arguments),
     }
 }
@@ -120,7 +120,7 @@ fn value_of(mut frame: Frame, number: u32) -> Result<Value, Wrong>
     ensures { result ≡ held (slice_get frame.registers number) }
 {
     match frame.registers.get(u64::from(number)) {
-        None => Err(Wrong::Place),
+        None => Err(Wrong::Absent),
         Some(Value::Empty) => Err(Wrong::Empty),
         Some(_) => Ok(frame.registers.set(u64::from(number), Value::Empty)),
     }
@@ -133,7 +133,7 @@ pub fn return_step(proc: &mut Proc, code: &Code, from: u32) -> Result<Stepped, S
     ensures { Answers (return_step code.now from (state_of proc.old)) result (state_of proc.old) (state_of proc.new) }
 {
     let frame = match proc.frames.pop() {
-        None => return Err(StepFault::Wrong(Wrong::Place)),
+        None => return Err(StepFault::Wrong(Wrong::Absent)),
         Some(frame) => frame,
     };
     let value = match value_of(frame, from) {
@@ -149,7 +149,7 @@ pub fn return_step(proc: &mut Proc, code: &Code, from: u32) -> Result<Stepped, S
     };
     let next = outer.place;
     match target_of(code.fetch(outer.method, outer.place)) {
-        None => Err(StepFault::Wrong(Wrong::Place)),
+        None => Err(StepFault::Wrong(Wrong::Absent)),
         Some(to) => {
             proc.frames.set(to, value);
             proc.frames.go_on(next + 1);

@@ -42,7 +42,7 @@ pub fn drop_maybe_step(proc: &mut Proc, next: u32, from: u32) -> Result<Stepped,
     ensures { Answers (drop_maybe_step next from (state_of proc.old)) result (state_of proc.old) (state_of proc.new) }
 {
     match proc.frames.register(from) {
-        None => return Err(StepFault::Wrong(Wrong::Place)),
+        None => return Err(StepFault::Wrong(Wrong::Absent)),
         Some(Value::Empty) => {
             go_on(proc, next);
             return Ok(Stepped::Went);
@@ -59,11 +59,11 @@ fn settle(proc: &mut Proc, code: &Code) -> Result<(), Wrong>
     ensures { Goes (dropped code.now proc.old.heap.objects proc.old.pending (state_of proc.old)) result (state_of proc.new) }
 {
     let (method, place) = match proc.frames.top() {
-        None => return Err(Wrong::Place),
+        None => return Err(Wrong::Absent),
         Some(frame) => (frame.method, frame.place),
     };
     if code.fetch(method, place).is_none() {
-        return Err(Wrong::Place);
+        return Err(Wrong::Absent);
     }
     if proc.pending.first().is_none() {
         go_on(proc, place + 1);
@@ -85,7 +85,7 @@ fn panic_borrowed(
     ensures { Answers (given Wrong.Place (slice_get code.now.kinds kind) (λ name. panics (drop_text name count) (state_of proc.now))) result (state_of proc.now) (state_of proc.now) }
 {
     match code.kinds.get(u64::from(kind)) {
-        None => Err(StepFault::Wrong(Wrong::Place)),
+        None => Err(StepFault::Wrong(Wrong::Absent)),
         Some(name) => match drop_text(alloc, name, count) {
             Err(_) => Err(StepFault::OutOfMemory),
             Ok(text) => Ok(Stepped::Panics(text)),
@@ -143,7 +143,7 @@ pub fn drop_next(alloc: Global, proc: &mut Proc, code: &Code) -> Result<Stepped,
     ensures { Answers (first_drop code.now proc.old.pending (state_of proc.old)) result (state_of proc.old) (state_of proc.new) }
 {
     match proc.pending.first() {
-        None => Err(StepFault::Wrong(Wrong::Place)),
+        None => Err(StepFault::Wrong(Wrong::Absent)),
         Some(Value::Own(id)) => {
             let id = *id;
             drop_owner(alloc, proc, code, id)

@@ -58,7 +58,7 @@ pub fn make_step(
     ensures { Answers (make_step limits.now next to kind tag fields.now (state_of proc.old)) result (state_of proc.old) (state_of proc.new) }
 {
     if !proc.frames.has(to) {
-        return Err(StepFault::Wrong(Wrong::Place));
+        return Err(StepFault::Wrong(Wrong::Absent));
     }
     if let Some(text) = full_text(alloc, proc, limits)? {
         return Ok(Stepped::Panics(text));
@@ -80,7 +80,7 @@ pub fn make_array_step(
     ensures { Answers (make_array_step limits.now next to items.now (state_of proc.old)) result (state_of proc.old) (state_of proc.new) }
 {
     if !proc.frames.has(to) {
-        return Err(StepFault::Wrong(Wrong::Place));
+        return Err(StepFault::Wrong(Wrong::Absent));
     }
     if let Some(text) = full_text(alloc, proc, limits)? {
         return Ok(Stepped::Panics(text));

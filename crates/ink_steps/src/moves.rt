@@ -25,10 +25,10 @@ pub fn const_step(
     ensures { Answers (const_step code.now next to constant (state_of proc.old)) result (state_of proc.old) (state_of proc.new) }
 {
     if !proc.frames.has(to) {
-        return Err(StepFault::Wrong(Wrong::Place));
+        return Err(StepFault::Wrong(Wrong::Absent));
     }
     let value = match code.constants.get(u64::from(constant)) {
-        None => return Err(StepFault::Wrong(Wrong::Place)),
+        None => return Err(StepFault::Wrong(Wrong::Absent)),
         Some(value) => plain(alloc, value)?,
     };
     proc.frames.set(to, value);
@@ -43,7 +43,7 @@ pub fn move_step(proc: &mut Proc, next: u32, to: u32, from: u32) -> Result<Stepp
     ensures { Answers (move_step next to from (state_of proc.old)) result (state_of proc.old) (state_of proc.new) }
 {
     if !proc.frames.has(to) {
-        return Err(StepFault::Wrong(Wrong::Place));
+        return Err(StepFault::Wrong(Wrong::Absent));
     }
     match proc.frames.take(from) {
         Err(why) => Err(StepFault::Wrong(why)),
@@ -89,7 +89,7 @@ pub fn copy_step(
     ensures { Answers (copy_step next to from (state_of proc.old)) result (state_of proc.old) (state_of proc.new) }
 {
     if !proc.frames.has(to) {
-        return Err(StepFault::Wrong(Wrong::Place));
+        return Err(StepFault::Wrong(Wrong::Absent));
     }
     let value = copied(alloc, &proc.frames, from)?;
     put_copy(proc, next, to, value)
@@ -108,7 +108,7 @@ pub fn borrow_step(
     ensures { Answers (borrow_step next to from (state_of proc.old)) result (state_of proc.old) (state_of proc.new) }
 {
     if !proc.frames.has(to) {
-        return Err(StepFault::Wrong(Wrong::Place));
+        return Err(StepFault::Wrong(Wrong::Absent));
     }
     let value = copied(alloc, &proc.frames, from)?;
     put_copy(proc, next, to, lent(value))
@@ -121,7 +121,7 @@ pub fn exchange_step(proc: &mut Proc, next: u32, one: u32, other: u32) -> Result
     ensures { Answers (exchange_step next one other (state_of proc.old)) result (state_of proc.old) (state_of proc.new) }
 {
     if !proc.frames.swap(one, other) {
-        return Err(StepFault::Wrong(Wrong::Place));
+        return Err(StepFault::Wrong(Wrong::Absent));
     }
     go_on(proc, next);
     Ok(Stepped::Went)
@@ -134,7 +134,7 @@ pub fn my_proc_step(proc: &mut Proc, next: u32, to: u32) -> Result<Stepped, Step
     ensures { Answers (my_proc_step next to (state_of proc.old)) result (state_of proc.old) (state_of proc.new) }
 {
     if !proc.frames.has(to) {
-        return Err(StepFault::Wrong(Wrong::Place));
+        return Err(StepFault::Wrong(Wrong::Absent));
     }
     let number = proc.number;
     proc.frames.set(to, Value::Proc(number));

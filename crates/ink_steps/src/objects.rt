@@ -24,7 +24,7 @@ fn field_of(alloc: Global, heap: &Heap, id: &ObjectId, field: u32) -> Result<Val
         return Err(StepFault::Wrong(Wrong::Object));
     }
     match heap.read(id, u64::from(field)) {
-        None => Err(StepFault::Wrong(Wrong::Place)),
+        None => Err(StepFault::Wrong(Wrong::Absent)),
         Some(value) => match value.copy(alloc) {
             Err(_) => Err(StepFault::OutOfMemory),
             Ok(value) => Ok(value),
@@ -46,7 +46,7 @@ pub fn load_step(
     ensures { Answers (load_step next to object field (state_of proc.old)) result (state_of proc.old) (state_of proc.new) }
 {
     if !proc.frames.has(to) {
-        return Err(StepFault::Wrong(Wrong::Place));
+        return Err(StepFault::Wrong(Wrong::Absent));
     }
     let named = copied(alloc, &proc.frames, object)?;
     let id = object_of(&named)?;
@@ -68,7 +68,7 @@ pub fn load_borrow_step(
     ensures { Answers (load_borrow_step next to object field (state_of proc.old)) result (state_of proc.old) (state_of proc.new) }
 {
     if !proc.frames.has(to) {
-        return Err(StepFault::Wrong(Wrong::Place));
+        return Err(StepFault::Wrong(Wrong::Absent));
     }
     let named = copied(alloc, &proc.frames, object)?;
     let id = object_of(&named)?;
@@ -89,7 +89,7 @@ pub fn tag_step(
     ensures { Answers (tag_step next to object (state_of proc.old)) result (state_of proc.old) (state_of proc.new) }
 {
     if !proc.frames.has(to) {
-        return Err(StepFault::Wrong(Wrong::Place));
+        return Err(StepFault::Wrong(Wrong::Absent));
     }
     let named = copied(alloc, &proc.frames, object)?;
     let id = object_of(&named)?;
@@ -118,7 +118,7 @@ pub fn store_step(
     ensures { Answers (store_step next to object field from (state_of proc.old)) result (state_of proc.old) (state_of proc.new) }
 {
     if !proc.frames.has(to) {
-        return Err(StepFault::Wrong(Wrong::Place));
+        return Err(StepFault::Wrong(Wrong::Absent));
     }
     let named = copied(alloc, &proc.frames, object)?;
     let id = object_of(&named)?;
@@ -127,7 +127,7 @@ pub fn store_step(
         return Err(StepFault::Wrong(Wrong::Object));
     }
     if proc.heap.read(&id, u64::from(field)).is_none() {
-        return Err(StepFault::Wrong(Wrong::Place));
+        return Err(StepFault::Wrong(Wrong::Absent));
     }
     if is_under(alloc, &proc.heap, &id, value)? {
         return panic_with(alloc, b"ownership cycle");

@@ -27,7 +27,7 @@ pub(crate) fn held(frames: &Frames, number: u32) -> Result<&Value, Wrong>
     ensures { MatchResult result (λ value. held (register frames.now number) ≡ Ok value.now) (λ why. held (register frames.now number) ≡ Err why) }
 {
     match frames.register(number) {
-        None => Err(Wrong::Place),
+        None => Err(Wrong::Absent),
         Some(Value::Empty) => Err(Wrong::Empty),
         Some(value) => Ok(value),
     }
@@ -38,7 +38,7 @@ pub(crate) fn copied(alloc: Global, frames: &Frames, number: u32) -> Result<Valu
     ensures { Finds (held (register frames.now number)) result }
 {
     match frames.register(number) {
-        None => Err(StepFault::Wrong(Wrong::Place)),
+        None => Err(StepFault::Wrong(Wrong::Absent)),
         Some(Value::Empty) => Err(StepFault::Wrong(Wrong::Empty)),
         Some(value) => match value.copy(alloc) {
             Err(_) => Err(StepFault::OutOfMemory),

@@ -64,7 +64,7 @@ pub fn future_new_step(proc: &Proc, future: u32, promise: u32) -> Result<Stepped
     if proc.frames.has(future) && proc.frames.has(promise) {
         Ok(Stepped::Wants(Request::NewFuture))
     } else {
-        Err(StepFault::Wrong(Wrong::Place))
+        Err(StepFault::Wrong(Wrong::Absent))
     }
 }
 
@@ -79,7 +79,7 @@ pub fn future_get_step(
     ensures { Answers (future_get_step to future (state_of proc.now)) result (state_of proc.now) (state_of proc.now) }
 {
     if !proc.frames.has(to) {
-        return Err(StepFault::Wrong(Wrong::Place));
+        return Err(StepFault::Wrong(Wrong::Absent));
     }
     let value = copied(alloc, &proc.frames, future)?;
     let future = future_of(&value)?;
@@ -122,7 +122,7 @@ pub fn spawn_step(
     ensures { Answers (spawn_step to kind fields.now (state_of proc.old)) result (state_of proc.old) (state_of proc.new) }
 {
     if !proc.frames.has(to) {
-        return Err(StepFault::Wrong(Wrong::Place));
+        return Err(StepFault::Wrong(Wrong::Absent));
     }
     let room = Vec::with_capacity(alloc, fields.len())?;
     let values = proc.frames.take_out(room, fields)?;

@@ -7,7 +7,7 @@ use Rattle.std.specs.Str.{IsUtf8}
 use Rattle.std.specs.Str.Parse.{ParsesUnsigned}
 use Rattle.std.proofs.lemmas.Str.{IsUtf8-from_ascii}
 use Rattle.std.proofs.lemmas.Fmt.{IsAscii-decimal, parse-decimal, decimal_injective}
-use Rattle.ink_base.specs.Limits.{place_of, option_word, IsInRange, IsInRangeAt, AreInRange, default_numbers}
+use Rattle.ink_base.specs.Limits.{index_of, option_word, IsInRange, IsInRangeAt, AreInRange, default_numbers}
 use Rattle.ink_base.specs.declared.limits.Limit.{Limit}
 use Rattle.ink_base.specs.declared.limits.Limit.TheVariants.{Source, Height, Frames, Objects, Serial, Array, Text, Processes, Mailbox, Futures, Events, Local, Slice, Workers}
 use Rattle.ink_words.specs.Commands.{Word, IsNumber}
@@ -16,7 +16,7 @@ use Rattle.ink_words.specs.Commands.{Word, IsNumber}
 abbrev pub all_limits : List Limit
 all_limits = Source ∷ Height ∷ Frames ∷ Objects ∷ Serial ∷ Array ∷ Text ∷ Processes ∷ Mailbox ∷ Futures ∷ Events ∷ Local ∷ Slice ∷ Workers ∷ []
 
-pub limit_at : (limit : Limit) → slice_index_or all_limits (place_of limit) Source ≡ limit
+pub limit_at : (limit : Limit) → slice_index_or all_limits (index_of limit) Source ≡ limit
 limit_at Source = refl
 limit_at Height = refl
 limit_at Frames = refl
@@ -32,25 +32,25 @@ limit_at Local = refl
 limit_at Slice = refl
 limit_at Workers = refl
 
-pub place_below : (limit : Limit) → place_of limit < 14
-place_below Source = omega arith
-place_below Height = omega arith
-place_below Frames = omega arith
-place_below Objects = omega arith
-place_below Serial = omega arith
-place_below Array = omega arith
-place_below Text = omega arith
-place_below Processes = omega arith
-place_below Mailbox = omega arith
-place_below Futures = omega arith
-place_below Events = omega arith
-place_below Local = omega arith
-place_below Slice = omega arith
-place_below Workers = omega arith
+pub index_below : (limit : Limit) → index_of limit < 14
+index_below Source = omega arith
+index_below Height = omega arith
+index_below Frames = omega arith
+index_below Objects = omega arith
+index_below Serial = omega arith
+index_below Array = omega arith
+index_below Text = omega arith
+index_below Processes = omega arith
+index_below Mailbox = omega arith
+index_below Futures = omega arith
+index_below Events = omega arith
+index_below Local = omega arith
+index_below Slice = omega arith
+index_below Workers = omega arith
 
 -- a word that is the option of none of them
 pub no_option : (word : Word) → ((k : ℕ) → k < 14 → word ≡ option_word (slice_index_or all_limits k Source) → ⊥) → (limit : Limit) → word ≡ option_word limit → ⊥
-no_option word none limit is = none (place_of limit) (place_below limit) (is ∙ ap option_word (sym (limit_at limit)))
+no_option word none limit is = none (index_of limit) (index_below limit) (is ∙ ap option_word (sym (limit_at limit)))
 
 -- a number that a limit may have fits 64 bits
 pub fits : (limit : Limit) (number : ℕ) → IsInRange limit number → number < 2 ^ 64
@@ -132,14 +132,14 @@ differ a b apart same = elim apart [ inl below ↦ omega (arith, below, same) | 
 
 -- a number in its range in the place of another
 pub with_number_are_numbers : (limit : Limit) (number : ℕ) (numbers : List ℕ) → IsInRange limit number → AreNumbers numbers
-    → AreNumbers (slice_set numbers (place_of limit) number)
+    → AreNumbers (slice_set numbers (index_of limit) number)
 with_number_are_numbers limit number numbers within are = record {
-  each = λ place below. elim (cases_order place (place_of limit)) [
+  each = λ place below. elim (cases_order place (index_of limit)) [
     | inl here ↦
-        let set : slice_index (slice_set numbers (place_of limit) number) place ≡ number =
-        ap (slice_index (slice_set numbers (place_of limit) number)) here ∙ get_or-set_same numbers (place_of limit) number 0 (omega (arith, place_below limit, are.all)) in
+        let set : slice_index (slice_set numbers (index_of limit) number) place ≡ number =
+        ap (slice_index (slice_set numbers (index_of limit) number)) here ∙ get_or-set_same numbers (index_of limit) number 0 (omega (arith, index_below limit, are.all)) in
         rw (set, here) within
-    | inr apart ↦ rw (get_or-set_other numbers (place_of limit) place number 0 (differ place (place_of limit) apart)) (are.each place below)
+    | inr apart ↦ rw (get_or-set_other numbers (index_of limit) place number 0 (differ place (index_of limit) apart)) (are.each place below)
   ];
-  all = length-set numbers (place_of limit) number ∙ are.all;
+  all = length-set numbers (index_of limit) number ∙ are.all;
 }

@@ -1,7 +1,7 @@
 -- The language of the command line, and where words leave it.
 use Rattle.std.specs.Prelude.{◌≡◌, ◌≢◌, ◌↔◌, ℕ, ◌+◌, suc, ◌<◌, ◌≤◌, ◌⊎◌, Bool, true, false, List, [], ◌∷◌, ◌++◌, length, take, replicate, slice_index_or, slice_set, codes, Option, None, Some}
 use Rattle.std.specs.Fmt.{decimal}
-use Rattle.ink_base.specs.Limits.{place_of, default_numbers, option_word, IsInRange}
+use Rattle.ink_base.specs.Limits.{index_of, default_numbers, option_word, IsInRange}
 use Rattle.ink_base.specs.declared.limits.Limit.{Limit}
 use Rattle.ink_base.specs.declared.limits.Limit.TheVariants.{Source, Height, Workers}
 use Rattle.ink_words.specs.declared.command.Command.{Command}
@@ -50,12 +50,12 @@ with_file file before = record { file = Some file; given = before.given; numbers
 abbrev pub with_number : Limit → ℕ → Given → Given
 with_number limit number before = record {
   file = before.file;
-  given = slice_set before.given (place_of limit) true;
-  numbers = slice_set before.numbers (place_of limit) number;
+  given = slice_set before.given (index_of limit) true;
+  numbers = slice_set before.numbers (index_of limit) number;
 }
 
 abbrev pub is_given : Limit → Given → Bool
-is_given limit before = slice_index_or before.given (place_of limit) false
+is_given limit before = slice_index_or before.given (index_of limit) false
 
 -- The words behind a command, from what was given before them, and the limit whose number comes next, to what is given
 -- behind the last of them.

@@ -66,7 +66,7 @@ impl<'a> Arguments<'a> {
     fn is_given(&self, limit: Limit) -> bool
         ensures { result ≡ is_given limit self.now }
     {
-        self.given[limit.place()]
+        self.given[limit.index()]
     }
 
     fn with_file(mut self, file: &'a Text) -> Arguments<'a>
@@ -79,8 +79,8 @@ impl<'a> Arguments<'a> {
     fn with_number(mut self, limit: Limit, number: u64) -> Arguments<'a>
         ensures { result ≡ with_number limit number self.entry }
     {
-        self.given[limit.place()] = true;
-        self.numbers[limit.place()] = number;
+        self.given[limit.index()] = true;
+        self.numbers[limit.index()] = number;
         self
     }
 

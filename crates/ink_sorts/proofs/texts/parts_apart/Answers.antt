@@ -1,8 +1,0 @@
-use Rattle.ink_sorts.proofs.PartLemmas.{part, apart}
-use Rattle.ink_sorts.proofs.texts.parts_apart.Goals as goal
-
-pub returns-clause-part : goal.returns-clause-part
-returns-clause-part c = part
-
-pub returns-clause-apart : goal.returns-clause-apart
-returns-clause-apart c = apart
