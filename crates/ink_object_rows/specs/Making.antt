@@ -1,6 +1,6 @@
 -- What a row wants before it makes an object.
 use Rattle.std.specs.Prelude.{if◌then◌else◌, Option, None, Some, Result, Ok, Err, slice_get}
-use Rattle.std.specs.FinMap.{get, remove}
+use Rattle.std.specs.FinMap.{remove}
 use Rattle.ink_base.specs.declared.ident.ObjectId.{ObjectId}
 use Rattle.ink_base.specs.declared.object.Object.{Object}
 use Rattle.ink_base.specs.declared.value.Value.{Value}

@@ -72,7 +72,7 @@ pub record HasSpot (values : List Value) (objects : Objects) (id : ObjectId) (pl
 
 -- the answer is what the tests come to; it can be that there is no memory
 abbrev pub IsTarget : Result Target RowFault → List Value → Objects → Type 0
-IsTarget (Ok (target.Item id place)) values objects = HasSpot values objects id place
+IsTarget (Ok (target.Item id index)) values objects = HasSpot values objects id index
 IsTarget (Ok (target.Panic text)) values objects = (left : Objects) × (tested values objects ≡ Ok (Fails text left))
 IsTarget (Err (fault.Wrong why)) values objects = tested values objects ≡ Err why
 IsTarget (Err fault.OutOfMemory) values objects = Unit {0}

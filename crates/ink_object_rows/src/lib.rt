@@ -7,6 +7,7 @@
 #![tactic(auto)]
 
 mod array_rows;
+mod given;
 mod items;
 mod making;
 mod option_rows;

@@ -8,7 +8,7 @@ ghost use Rattle.ink_code.specs.Objects.{owned_by};
 ghost use Rattle.ink_code.specs.OptionRows.{as_ref_row, none_row, some_row, stdout_row, value_row};
 ghost use Rattle.ink_code.specs.Rows.{fails};
 ghost use Rattle.ink_proc.specs.State.{state_of};
-ghost use Rattle.ink_object_rows.specs.Answers.{Comes, Finds, RowAnswers};
+ghost use Rattle.ink_object_rows.specs.Answers.{Comes, Does, Finds, RowAnswers};
 ghost use Rattle.ink_object_rows.specs.Making.{lent_value, value_given};
 
 use crate::making::{give_lent, give_made};
@@ -25,7 +25,7 @@ use std::alloc::Global;
 /// Whether an Option has a value.
 #[tactic(auto, using(crate::proofs::RowLemmas::reads), unfolding(ink_code::specs::Machine::after))]
 pub fn some_row(proc: &mut Proc, values: &[Value]) -> Result<Computed, RowFault>
-    ensures answer { RowAnswers (some_row values.now (state_of proc.old)) result (state_of proc.old) (state_of proc.new) values.now values.now }
+    ensures answer { Does some_row result proc.old proc.new values.now values.now }
     ensures ran { proc.new.ran ≡ proc.old.ran }
 {
     let id = lone_receiver(&proc.heap, OPTION_KIND, values)?;
@@ -41,7 +41,7 @@ pub fn some_row(proc: &mut Proc, values: &[Value]) -> Result<Computed, RowFault>
 /// Whether an Option has no value.
 #[tactic(auto, using(crate::proofs::RowLemmas::reads), unfolding(ink_code::specs::Machine::after))]
 pub fn none_row(proc: &mut Proc, values: &[Value]) -> Result<Computed, RowFault>
-    ensures answer { RowAnswers (none_row values.now (state_of proc.old)) result (state_of proc.old) (state_of proc.new) values.now values.now }
+    ensures answer { Does none_row result proc.old proc.new values.now values.now }
     ensures ran { proc.new.ran ≡ proc.old.ran }
 {
     let id = lone_receiver(&proc.heap, OPTION_KIND, values)?;
@@ -62,7 +62,7 @@ pub fn stdout_row(
     limits: &Limits,
     values: &[Value],
 ) -> Result<Computed, RowFault>
-    ensures answer { RowAnswers (stdout_row limits.now values.now (state_of proc.old)) result (state_of proc.old) (state_of proc.new) values.now values.now }
+    ensures answer { Does (stdout_row limits.now) result proc.old proc.new values.now values.now }
     ensures ran { proc.new.ran ≡ proc.old.ran }
 {
     let None = values.split_first() else {
@@ -105,7 +105,7 @@ pub fn as_ref_row(
     limits: &Limits,
     values: &[Value],
 ) -> Result<Computed, RowFault>
-    ensures answer { RowAnswers (as_ref_row limits.now values.now (state_of proc.old)) result (state_of proc.old) (state_of proc.new) values.now values.now }
+    ensures answer { Does (as_ref_row limits.now) result proc.old proc.new values.now values.now }
     ensures ran { proc.new.ran ≡ proc.old.ran }
 {
     let id = lone_receiver(&proc.heap, OPTION_KIND, values)?;
@@ -162,7 +162,7 @@ pub fn value_row(
     code: &Code,
     values: &[Value],
 ) -> Result<Computed, RowFault>
-    ensures answer { RowAnswers (value_row code.now values.now (state_of proc.old)) result (state_of proc.old) (state_of proc.new) values.now values.now }
+    ensures answer { Does (value_row code.now) result proc.old proc.new values.now values.now }
     ensures ran { proc.new.ran ≡ proc.old.ran }
 {
     let id = owned_by(single(values)?)?;

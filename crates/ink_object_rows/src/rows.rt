@@ -2,8 +2,7 @@
 ghost use Rattle.std.specs.Prelude.{◌≡◌};
 ghost use Rattle.ink_code.specs.ArrayRows.{array_rows};
 ghost use Rattle.ink_code.specs.OptionRows.{option_rows};
-ghost use Rattle.ink_proc.specs.State.{state_of};
-ghost use Rattle.ink_object_rows.specs.Answers.{RowAnswers};
+ghost use Rattle.ink_object_rows.specs.Answers.{Does};
 
 use crate::array_rows::{clear_row, empty_row, get_row, pop_row, size_row};
 use crate::option_rows::{as_ref_row, none_row, some_row, stdout_row, value_row};
@@ -25,7 +24,7 @@ pub fn array_row(
     row: u32,
     values: &mut [Value],
 ) -> Result<Computed, RowFault>
-    ensures answer { RowAnswers (array_rows limits.now row values.old (state_of proc.old)) result (state_of proc.old) (state_of proc.new) values.old values.new }
+    ensures answer { Does (array_rows limits.now row) result proc.old proc.new values.old values.new }
     ensures ran { proc.new.ran ≡ proc.old.ran }
 {
     match row {
@@ -53,7 +52,7 @@ pub fn option_row(
     row: u32,
     values: &[Value],
 ) -> Result<Computed, RowFault>
-    ensures answer { RowAnswers (option_rows code.now limits.now row values.now (state_of proc.old)) result (state_of proc.old) (state_of proc.new) values.now values.now }
+    ensures answer { Does (option_rows code.now limits.now row) result proc.old proc.new values.now values.now }
     ensures ran { proc.new.ran ≡ proc.old.ran }
 {
     match row {

@@ -74,7 +74,7 @@ fn divide(alloc: Global, values: &[Value]) -> Result<Computed, RowFault>
 }
 
 /// What is left beside that quotient. A panic where the other number is 0.
-#[tactic(auto, using(crate::proofs::IntLemmas::fits_is_int, crate::proofs::IntLemmas::unfit_is_no_int), unfolding(ink_code::specs::Machine::after, ink_code::specs::IntRows::rest_row))]
+#[tactic(auto, using(crate::proofs::IntLemmas::fits_is_int), unfolding(ink_code::specs::Machine::after, ink_code::specs::IntRows::rest_row))]
 fn rest(alloc: Global, values: &[Value]) -> Result<Computed, RowFault>
     ensures { Answers result (rest_row values.now) }
 {

@@ -1,5 +1,5 @@
 //! The texts with which rows and instructions panic, where these tell numbers or limits.
-ghost use Rattle.std.specs.Prelude.{◌≡◌, ◌<◌, ◌++◌, codes, IfNone, IfOk};
+ghost use Rattle.std.specs.Prelude.{◌≡◌, ◌<◌, ◌++◌, codes, IfNone, IfOk, IsSome, Some};
 ghost use Rattle.std.specs.Fmt.{signed_decimal};
 ghost use Rattle.ink_base.specs.Actions.{reached};
 ghost use Rattle.ink_base.specs.Limits.{panic_text};
@@ -12,7 +12,7 @@ use itoa::Buffer;
 use std::alloc::{AllocError, Global};
 
 /// How that text begins.
-fn index_named(alloc: Global, index: i64) -> Result<Vec<u8>, AllocError>
+fn index_text_front(alloc: Global, index: i64) -> Result<Vec<u8>, AllocError>
     ensures { IfOk result (λ bytes. bytes.items ≡ codes "index " ++ signed_decimal index) }
 {
     let mut buffer = Buffer::new();
@@ -26,7 +26,7 @@ pub fn index_text(alloc: Global, index: i64, size: usize) -> Result<Text, AllocE
     ensures { IfOk result (λ text. text ≡ index_text index size) }
 {
     let mut buffer = Buffer::new();
-    let mut bytes = index_named(alloc, index)?;
+    let mut bytes = index_text_front(alloc, index)?;
     bytes.extend_from_slice(b" is out of bounds, size ")?;
     bytes.extend_from_slice(buffer.format(size).as_bytes())?;
     Ok(Text::from_bytes(bytes))
@@ -48,6 +48,17 @@ pub fn drop_text(alloc: Global, name: &Text, borrows: u64) -> Result<Text, Alloc
         out.extend_from_slice(b" borrows")?;
     }
     Ok(Text::from_bytes(out))
+}
+
+/// With which text there is a panic at that limit, at which there is one.
+pub fn limit_text_of(alloc: Global, limit: Limit) -> Result<Text, AllocError>
+    requires { IsSome (panic_text limit) }
+    ensures { IfOk result (λ text. panic_text limit ≡ Some text) }
+{
+    match limit.panic_text() {
+        None => unreachable!(),
+        Some(text) => Text::of(alloc, text.as_bytes()),
+    }
 }
 
 /// With which text there is a panic at that limit, if there is one.
