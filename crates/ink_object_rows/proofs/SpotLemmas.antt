@@ -16,13 +16,12 @@ use Rattle.ink_base.specs.Objects.{Objects, changed_object, counted_down, with_f
 use Rattle.ink_base.specs.Panics.{cycle_text}
 use Rattle.ink_code.specs.ArrayRows.{push_row, set_row, swap_row, with_items}
 use Rattle.ink_code.specs.Machine.{after, unless, with_objects}
-use Rattle.ink_code.specs.Objects.{array_kind}
 use Rattle.ink_code.specs.Process.{Process}
 use Rattle.ink_code.specs.Rows.{RowOutcome, Gives, gives, fails, single, unless_fails}
 use Rattle.ink_code.specs.Trees.{is_under}
 use Rattle.ink_heap.proofs.ObjectsLemmas.{changed_object-same}
 use Rattle.ink_object_rows.specs.Answers.{raised}
-use Rattle.ink_object_rows.specs.Receiver.{Receives, received}
+use Rattle.ink_object_rows.specs.Given.{IsItemGiven}
 use Rattle.ink_object_rows.specs.Target.{HasSpot, on_tested}
 use Rattle.ink_object_rows.proofs.CycleLemmas.{is_under-counted}
 use Rattle.ink_object_rows.proofs.ChangeLemmas.{changed_there, changed_twice, get_changed}
@@ -95,17 +94,10 @@ pub same_state : (p : Process) (objects : Objects) (pending : List Value) → ob
 same_state p objects pending one other =
     ap (λ o. record p { objects = o; pending = pending }) one ∙ ap (λ waits. record p { pending = waits }) other
 
--- what the first tests of a push told: the receiver, the item, and how many items there are
-pub record Begun (values : List Value) (objects : Objects) (id : ObjectId) (value : Value) (size : ℕ) : Type 0 where
-  pub operands : List Value
-  pub all : Receives (received array_kind values objects) id operands values objects
-  pub lone : single operands ≡ Ok value
-  pub sized : option_map (λ object. length object.fields) (get objects id) ≡ Some size
-
 abbrev pushed_to : Object → Objects → ObjectId → Value → Process → RowOutcome
 pushed_to found left id value p = unless (is_under id value left) (fails cycle_text (with_objects left p)) (gives v.Nil (with_items id (found.fields ++ value ∷ []) (with_objects left p)))
 
-begun : (limits : List ℕ) (values : List Value) (p : Process) (id : ObjectId) (value : Value) (size : ℕ) (b : Begun values p.objects id value size) → push_row limits values p ≡ unless_fails (reached limit.Array size limits) (with_objects (changed_object p.objects id counted_down) p) (pushed_to b.all.found (changed_object p.objects id counted_down) id value p)
+begun : (limits : List ℕ) (values : List Value) (p : Process) (id : ObjectId) (value : Value) (size : ℕ) (b : IsItemGiven values p.objects id value size) → push_row limits values p ≡ unless_fails (reached limit.Array size limits) (with_objects (changed_object p.objects id counted_down) p) (pushed_to b.all.found (changed_object p.objects id counted_down) id value p)
 unfolding after
 begun limits values p id value size b =
     let left : Objects = changed_object p.objects id counted_down in
@@ -115,12 +107,12 @@ begun limits values p id value size b =
     ∙ ap (λ answer. after answer (λ value. unless_fails (reached limit.Array (length b.all.found.fields) limits) (with_objects left p) (pushed_to b.all.found left id value p))) b.lone
     ∙ ap (λ count. unless_fails (reached limit.Array count limits) (with_objects left p) (pushed_to b.all.found left id value p)) sized
 
-pub push_full : (limits : List ℕ) (values : List Value) (p : Process) (id : ObjectId) (value : Value) (size : ℕ) (text : List ℕ) → Begun values p.objects id value size → reached limit.Array size limits ≡ Some text → raised (push_row limits values p) ≡ Some text
+pub push_full : (limits : List ℕ) (values : List Value) (p : Process) (id : ObjectId) (value : Value) (size : ℕ) (text : List ℕ) → IsItemGiven values p.objects id value size → reached limit.Array size limits ≡ Some text → raised (push_row limits values p) ≡ Some text
 unfolding unless_fails
 push_full limits values p id value size text b is =
     ap raised (begun limits values p id value size b ∙ ap (λ text. unless_fails text (with_objects (changed_object p.objects id counted_down) p) (pushed_to b.all.found (changed_object p.objects id counted_down) id value p)) is)
 
-tested : (limits : List ℕ) (values : List Value) (p : Process) (id : ObjectId) (value : Value) (size : ℕ) (b : Begun values p.objects id value size) → reached limit.Array size limits ≡ None → push_row limits values p ≡ unless (is_under id value p.objects) (fails cycle_text (with_objects (changed_object p.objects id counted_down) p)) (gives v.Nil (with_items id (b.all.found.fields ++ value ∷ []) (with_objects (changed_object p.objects id counted_down) p)))
+tested : (limits : List ℕ) (values : List Value) (p : Process) (id : ObjectId) (value : Value) (size : ℕ) (b : IsItemGiven values p.objects id value size) → reached limit.Array size limits ≡ None → push_row limits values p ≡ unless (is_under id value p.objects) (fails cycle_text (with_objects (changed_object p.objects id counted_down) p)) (gives v.Nil (with_items id (b.all.found.fields ++ value ∷ []) (with_objects (changed_object p.objects id counted_down) p)))
 unfolding unless_fails
 tested limits values p id value size b free =
     let left : Objects = changed_object p.objects id counted_down in
@@ -128,7 +120,7 @@ tested limits values p id value size b free =
     ∙ ap (λ text. unless_fails text (with_objects left p) (pushed_to b.all.found left id value p)) free
     ∙ ap (λ test. unless test (fails cycle_text (with_objects left p)) (gives v.Nil (with_items id (b.all.found.fields ++ value ∷ []) (with_objects left p)))) (is_under-counted id value p.objects id)
 
-pub push_cycle : (limits : List ℕ) (values : List Value) (p : Process) (id : ObjectId) (value : Value) (size : ℕ) (text : List ℕ) → Begun values p.objects id value size → reached limit.Array size limits ≡ None → is_under id value p.objects ≡ true → text ≡ cycle_text → raised (push_row limits values p) ≡ Some text
+pub push_cycle : (limits : List ℕ) (values : List Value) (p : Process) (id : ObjectId) (value : Value) (size : ℕ) (text : List ℕ) → IsItemGiven values p.objects id value size → reached limit.Array size limits ≡ None → is_under id value p.objects ≡ true → text ≡ cycle_text → raised (push_row limits values p) ≡ Some text
 unfolding unless
 push_cycle limits values p id value size text b free cycle is =
     let left : Objects = changed_object p.objects id counted_down in
@@ -136,11 +128,11 @@ push_cycle limits values p id value size text b free cycle is =
     ∙ ap Some (sym is)
 
 -- the item that is moved out of the operands
-pub item_is : (values : List Value) (objects : Objects) (id : ObjectId) (value other : Value) (size : ℕ) → Begun values objects id value size → get_or values 1 other ≡ value
+pub item_is : (values : List Value) (objects : Objects) (id : ObjectId) (value other : Value) (size : ℕ) → IsItemGiven values objects id value size → get_or values 1 other ≡ value
 item_is values objects id value other size b =
     ap (λ all. get_or all 1 other) (b.all.behind ∙ ap (λ rest. v.Bor id ∷ rest) (single_is b.operands value b.lone))
 
-pub push_done : (limits : List ℕ) (values : List Value) (p : Process) (id : ObjectId) (value item : Value) (size : ℕ) (mid new : Objects) → Begun values p.objects id value size → reached limit.Array size limits ≡ None → is_under id value p.objects ≡ false → item ≡ value → mid ≡ changed_object p.objects id (with_more item) → new ≡ changed_object mid id counted_down → push_row limits values p ≡ Ok (Gives v.Nil, with_objects new p)
+pub push_done : (limits : List ℕ) (values : List Value) (p : Process) (id : ObjectId) (value item : Value) (size : ℕ) (mid new : Objects) → IsItemGiven values p.objects id value size → reached limit.Array size limits ≡ None → is_under id value p.objects ≡ false → item ≡ value → mid ≡ changed_object p.objects id (with_more item) → new ≡ changed_object mid id counted_down → push_row limits values p ≡ Ok (Gives v.Nil, with_objects new p)
 unfolding unless
 push_done limits values p id value item size mid new b free under item_is mid_is new_is =
     let left : Objects = changed_object p.objects id counted_down in

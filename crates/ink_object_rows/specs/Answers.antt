@@ -4,6 +4,8 @@ use Rattle.ink_base.specs.declared.value.Value.{Value}
 use Rattle.ink_code.specs.declared.wrong.Wrong.{Wrong}
 use Rattle.ink_code.specs.Process.{Process}
 use Rattle.ink_code.specs.Rows.{Gives, Raises, RowOutcome}
+use Rattle.ink_proc.specs.declared.process.Proc.{Proc}
+use Rattle.ink_proc.specs.State.{state_of}
 use Rattle.ink_rows.specs.declared.computed.Computed.{Computed}
 use Rattle.ink_rows.specs.declared.computed.Computed.TheVariants as c
 use Rattle.ink_rows.specs.declared.computed.RowFault.{RowFault}
@@ -22,6 +24,10 @@ RowAnswers outcome (Ok (c.Gives value)) old new had has = outcome ≡ Ok (Gives 
 RowAnswers outcome (Ok (c.Raises text)) old new had has = (raised outcome ≡ Some text) × (new ≡ old) × (has ≡ had)
 RowAnswers outcome (Err (fault.Wrong why)) old new had has = outcome ≡ Err why
 RowAnswers outcome (Err fault.OutOfMemory) old new had has = (new ≡ old) × (has ≡ had)
+
+-- that, of a row on some values, to which they were moved out of that process
+abbrev pub Does : (List Value → Process → RowOutcome) → Result Computed RowFault → Proc → Proc → List Value → List Value → Type 0
+Does row result old new had has = RowAnswers (row had (state_of old)) result (state_of old) (state_of new) had has
 
 -- the row gives that value and leaves the process so, or is wrong in that way
 abbrev pub Comes : RowOutcome → Result Value Wrong → Process → Type 0

@@ -9,7 +9,7 @@ use Rattle.ink_base.specs.Panics.{cycle_text, index_text}
 use Rattle.ink_code.specs.declared.wrong.Wrong.{Wrong}
 use Rattle.ink_code.specs.declared.wrong.Wrong.TheVariants as wrong
 use Rattle.ink_code.specs.Machine.{after, with_objects}
-use Rattle.ink_code.specs.Objects.{array_kind}
+use Rattle.ink_code.specs.Kinds.{array_kind}
 use Rattle.ink_code.specs.Process.{Process}
 use Rattle.ink_code.specs.Rows.{RowOutcome, fails, pair, int_of, place_in}
 use Rattle.ink_code.specs.Trees.{is_under}
@@ -72,7 +72,7 @@ pub record HasSpot (values : List Value) (objects : Objects) (id : ObjectId) (pl
 
 -- the answer is what the tests come to; it can be that there is no memory
 abbrev pub IsTarget : Result Target RowFault → List Value → Objects → Type 0
-IsTarget (Ok (target.Item id place)) values objects = HasSpot values objects id place
+IsTarget (Ok (target.Item id index)) values objects = HasSpot values objects id index
 IsTarget (Ok (target.Panic text)) values objects = (left : Objects) × (tested values objects ≡ Ok (Fails text left))
 IsTarget (Err (fault.Wrong why)) values objects = tested values objects ≡ Err why
 IsTarget (Err fault.OutOfMemory) values objects = Unit {0}

@@ -1,37 +1,34 @@
 //! The rows of Array. The receiver's borrow ends with the row.
 ghost use Rattle.std.specs.Prelude.{◌≡◌};
 ghost use Rattle.ink_code.specs.ArrayRows.{clear_row, empty_row, get_row, pop_row, size_row};
-ghost use Rattle.ink_proc.specs.State.{state_of};
-ghost use Rattle.ink_object_rows.specs.Answers.{RowAnswers};
+ghost use Rattle.ink_object_rows.specs.Answers.{Does};
 
 use crate::items::{lent_item, pop_item};
-use crate::making::{full_text, give_lent, give_option};
+use crate::making::{give_lent, give_option};
 use crate::receiver::{end_borrow, lone_receiver, receiver};
 use ink_base::{Items, Limits, Object, Value};
-use ink_code::Wrong;
+use ink_code::{ARRAY_KIND, Wrong};
 use ink_proc::{Proc, put_over};
 use ink_rows::operands::{int_of, single};
+use ink_rows::texts::full_text;
 use ink_rows::{Computed, RowFault};
 use std::alloc::Global;
 
-/// The number of the type of arrays, in each code.
-pub(crate) const ARRAY_KIND: u32 = 7;
-
-/// How many items an array has. One of 2^63 items has no Int for that, and is answered as out of memory.
+/// How many items an array has. An array of more than the greatest Int is answered as out of memory.
 #[tactic(auto, using(crate::proofs::RowLemmas::reads), unfolding(ink_code::specs::Machine::after))]
 pub fn size_row(proc: &mut Proc, values: &[Value]) -> Result<Computed, RowFault>
-    ensures answer { RowAnswers (size_row values.now (state_of proc.old)) result (state_of proc.old) (state_of proc.new) values.now values.now }
+    ensures answer { Does size_row result proc.old proc.new values.now values.now }
     ensures ran { proc.new.ran ≡ proc.old.ran }
 {
     let id = lone_receiver(&proc.heap, ARRAY_KIND, values)?;
     match proc.heap.size(&id) {
         None => Err(RowFault::Wrong(Wrong::Object)),
         Some(size) => {
-            if size >= 1 << 63 {
+            let Ok(number) = i64::try_from(size) else {
                 return Err(RowFault::OutOfMemory);
-            }
+            };
             end_borrow(&mut proc.heap, &id);
-            Ok(Computed::Gives(Value::Int(size as i64)))
+            Ok(Computed::Gives(Value::Int(number)))
         }
     }
 }
@@ -39,7 +36,7 @@ pub fn size_row(proc: &mut Proc, values: &[Value]) -> Result<Computed, RowFault>
 /// Whether an array has no items.
 #[tactic(auto, using(crate::proofs::RowLemmas::reads), unfolding(ink_code::specs::Machine::after))]
 pub fn empty_row(proc: &mut Proc, values: &[Value]) -> Result<Computed, RowFault>
-    ensures answer { RowAnswers (empty_row values.now (state_of proc.old)) result (state_of proc.old) (state_of proc.new) values.now values.now }
+    ensures answer { Does empty_row result proc.old proc.new values.now values.now }
     ensures ran { proc.new.ran ≡ proc.old.ran }
 {
     let id = lone_receiver(&proc.heap, ARRAY_KIND, values)?;
@@ -60,7 +57,7 @@ pub fn pop_row(
     limits: &Limits,
     values: &[Value],
 ) -> Result<Computed, RowFault>
-    ensures answer { RowAnswers (pop_row limits.now values.now (state_of proc.old)) result (state_of proc.old) (state_of proc.new) values.now values.now }
+    ensures answer { Does (pop_row limits.now) result proc.old proc.new values.now values.now }
     ensures ran { proc.new.ran ≡ proc.old.ran }
 {
     let id = lone_receiver(&proc.heap, ARRAY_KIND, values)?;
@@ -83,7 +80,7 @@ pub fn get_row(
     limits: &Limits,
     values: &[Value],
 ) -> Result<Computed, RowFault>
-    ensures answer { RowAnswers (get_row limits.now values.now (state_of proc.old)) result (state_of proc.old) (state_of proc.new) values.now values.now }
+    ensures answer { Does (get_row limits.now) result proc.old proc.new values.now values.now }
     ensures ran { proc.new.ran ≡ proc.old.ran }
 {
     let (id, operands) = receiver(&proc.heap, ARRAY_KIND, values)?;
@@ -98,7 +95,7 @@ pub fn get_row(
 /// All items are taken off, and wait to be dropped, the first in front.
 #[tactic(auto, using(crate::proofs::RowLemmas::clears), unfolding(ink_code::specs::Machine::after, crate::specs::Items::after_row))]
 pub fn clear_row(alloc: Global, proc: &mut Proc, values: &[Value]) -> Result<Computed, RowFault>
-    ensures answer { RowAnswers (clear_row values.now (state_of proc.old)) result (state_of proc.old) (state_of proc.new) values.now values.now }
+    ensures answer { Does clear_row result proc.old proc.new values.now values.now }
     ensures ran { proc.new.ran ≡ proc.old.ran }
 {
     let id = lone_receiver(&proc.heap, ARRAY_KIND, values)?;

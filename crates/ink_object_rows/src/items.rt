@@ -5,31 +5,31 @@ ghost use Rattle.std.specs.Option.{option_and_then};
 ghost use Rattle.ink_base.specs.Objects.{changed_object, fields_in, is_counted, with_field, with_more};
 ghost use Rattle.ink_object_rows.specs.Items.{after_row, last_item, lent_item, other_items};
 
-use crate::making::lent;
 use crate::receiver::end_borrow;
 use ink_base::{ObjectId, Value};
 use ink_heap::{Heap, PushFault};
-use ink_rows::operands::place_in;
+use ink_proc::borrow_of;
+use ink_rows::operands::index_in;
 use std::alloc::{AllocError, Global};
 
-/// A copy of a borrow of the item that an index names, where there is one.
+/// A copy of a borrow of the item whose index a number is, where there is one.
 pub(crate) fn lent_item(
     alloc: Global,
     heap: &Heap,
     id: &ObjectId,
-    index: i64,
+    number: i64,
 ) -> Result<Option<Value>, AllocError>
-    ensures { IfOk result (λ item. item ≡ lent_item index (fields_in heap.now.objects id.now)) }
+    ensures { IfOk result (λ item. item ≡ lent_item number (fields_in heap.now.objects id.now)) }
 {
     let size = match heap.size(id) {
         None => return Ok(None),
         Some(size) => size,
     };
-    match place_in(index, size as usize) {
+    match index_in(number, size as usize) {
         None => Ok(None),
-        Some(place) => match heap.read(id, place as u64) {
+        Some(index) => match heap.read(id, index as u64) {
             None => Ok(None),
-            Some(value) => Ok(Some(lent(value.copy(alloc)?))),
+            Some(value) => Ok(Some(borrow_of(value.copy(alloc)?))),
         },
     }
 }
@@ -45,13 +45,13 @@ pub(crate) fn pop_item(heap: &mut Heap, id: &ObjectId) -> Option<Value>
     heap.pop(id)
 }
 
-/// Puts an item in a place of an array, and gives the one that stood there.
-pub(crate) fn write_item(heap: &mut Heap, id: &ObjectId, place: u64, value: Value) -> Value
-    requires { IsSome (option_and_then (λ object. slice_get object.fields place) (get heap.old.objects id.now)) }
-    ensures old { option_and_then (λ object. slice_get object.fields place) (get heap.old.objects id.now) ≡ Some result }
-    ensures objects { heap.new ≡ record heap.old { objects = changed_object heap.old.objects id.now (with_field place value) } }
+/// Puts an item at an index of an array, and gives the one that stood there.
+pub(crate) fn write_item(heap: &mut Heap, id: &ObjectId, index: u64, value: Value) -> Value
+    requires { IsSome (option_and_then (λ object. slice_get object.fields index) (get heap.old.objects id.now)) }
+    ensures old { option_and_then (λ object. slice_get object.fields index) (get heap.old.objects id.now) ≡ Some result }
+    ensures objects { heap.new ≡ record heap.old { objects = changed_object heap.old.objects id.now (with_field index value) } }
 {
-    match heap.write(id, place, value) {
+    match heap.write(id, index, value) {
         Ok(old) => old,
         Err(_) => unreachable!(),
     }

@@ -3,31 +3,29 @@ ghost use Rattle.std.specs.Prelude.{◌≡◌, [], slice_get};
 ghost use Rattle.std.specs.FinMap as map;
 ghost use Rattle.ink_base.specs.Panics.{drop_text};
 ghost use Rattle.ink_code.specs.Machine.{given};
-ghost use Rattle.ink_code.specs.Objects.{option_kind, owned_by};
+ghost use Rattle.ink_code.specs.Kinds.{option_kind};
+ghost use Rattle.ink_code.specs.Objects.{owned_by};
 ghost use Rattle.ink_code.specs.OptionRows.{as_ref_row, none_row, some_row, stdout_row, value_row};
 ghost use Rattle.ink_code.specs.Rows.{fails};
 ghost use Rattle.ink_proc.specs.State.{state_of};
-ghost use Rattle.ink_object_rows.specs.Answers.{Comes, Finds, RowAnswers};
+ghost use Rattle.ink_object_rows.specs.Answers.{Comes, Does, Finds, RowAnswers};
 ghost use Rattle.ink_object_rows.specs.Making.{lent_value, value_given};
 
-use crate::making::{OPTION_KIND, SOME_TAG, full_text, give_lent, give_made, lent};
+use crate::making::{give_lent, give_made};
 use crate::receiver::{end_borrow, lone_receiver};
 use ink_base::{Items, Limits, ObjectId, Text, Value};
-use ink_code::{Code, Wrong};
+use ink_code::{Code, OPTION_KIND, SOME_TAG, STDOUT_KIND, Wrong};
 use ink_heap::Heap;
-use ink_proc::Proc;
+use ink_proc::{Proc, borrow_of};
 use ink_rows::operands::single;
-use ink_rows::texts::drop_text;
+use ink_rows::texts::{drop_text, full_text};
 use ink_rows::{Computed, RowFault};
 use std::alloc::Global;
-
-/// The number of the type of a Stdout, in each code.
-const STDOUT_KIND: u32 = 10;
 
 /// Whether an Option has a value.
 #[tactic(auto, using(crate::proofs::RowLemmas::reads), unfolding(ink_code::specs::Machine::after))]
 pub fn some_row(proc: &mut Proc, values: &[Value]) -> Result<Computed, RowFault>
-    ensures answer { RowAnswers (some_row values.now (state_of proc.old)) result (state_of proc.old) (state_of proc.new) values.now values.now }
+    ensures answer { Does some_row result proc.old proc.new values.now values.now }
     ensures ran { proc.new.ran ≡ proc.old.ran }
 {
     let id = lone_receiver(&proc.heap, OPTION_KIND, values)?;
@@ -43,7 +41,7 @@ pub fn some_row(proc: &mut Proc, values: &[Value]) -> Result<Computed, RowFault>
 /// Whether an Option has no value.
 #[tactic(auto, using(crate::proofs::RowLemmas::reads), unfolding(ink_code::specs::Machine::after))]
 pub fn none_row(proc: &mut Proc, values: &[Value]) -> Result<Computed, RowFault>
-    ensures answer { RowAnswers (none_row values.now (state_of proc.old)) result (state_of proc.old) (state_of proc.new) values.now values.now }
+    ensures answer { Does none_row result proc.old proc.new values.now values.now }
     ensures ran { proc.new.ran ≡ proc.old.ran }
 {
     let id = lone_receiver(&proc.heap, OPTION_KIND, values)?;
@@ -64,7 +62,7 @@ pub fn stdout_row(
     limits: &Limits,
     values: &[Value],
 ) -> Result<Computed, RowFault>
-    ensures answer { RowAnswers (stdout_row limits.now values.now (state_of proc.old)) result (state_of proc.old) (state_of proc.new) values.now values.now }
+    ensures answer { Does (stdout_row limits.now) result proc.old proc.new values.now values.now }
     ensures ran { proc.new.ran ≡ proc.old.ran }
 {
     let None = values.split_first() else {
@@ -93,7 +91,7 @@ fn lent_value(alloc: Global, heap: &Heap, id: &ObjectId) -> Result<Option<Value>
     }
     match heap.read(id, 0) {
         None => Err(RowFault::Wrong(Wrong::Absent)),
-        Some(value) => Ok(Some(lent(value.copy(alloc)?))),
+        Some(value) => Ok(Some(borrow_of(value.copy(alloc)?))),
     }
 }
 
@@ -107,7 +105,7 @@ pub fn as_ref_row(
     limits: &Limits,
     values: &[Value],
 ) -> Result<Computed, RowFault>
-    ensures answer { RowAnswers (as_ref_row limits.now values.now (state_of proc.old)) result (state_of proc.old) (state_of proc.new) values.now values.now }
+    ensures answer { Does (as_ref_row limits.now) result proc.old proc.new values.now values.now }
     ensures ran { proc.new.ran ≡ proc.old.ran }
 {
     let id = lone_receiver(&proc.heap, OPTION_KIND, values)?;
@@ -131,7 +129,7 @@ fn owned_by(value: &Value) -> Result<ObjectId, Wrong>
 /// The panic where an Option is given up that so many borrows are counted of.
 #[tactic(auto, unfolding(ink_code::specs::Machine::given))]
 fn panic_borrowed(alloc: Global, proc: &Proc, code: &Code, count: u64) -> Result<Computed, RowFault>
-    ensures { RowAnswers (given Wrong.Place (slice_get code.now.kinds option_kind) (λ name. fails (drop_text name count) (state_of proc.now))) result (state_of proc.now) (state_of proc.now) [] [] }
+    ensures { RowAnswers (given Wrong.Absent (slice_get code.now.kinds option_kind) (λ name. fails (drop_text name count) (state_of proc.now))) result (state_of proc.now) (state_of proc.now) [] [] }
 {
     match code.kinds.get(u64::from(OPTION_KIND)) {
         None => Err(RowFault::Wrong(Wrong::Absent)),
@@ -164,7 +162,7 @@ pub fn value_row(
     code: &Code,
     values: &[Value],
 ) -> Result<Computed, RowFault>
-    ensures answer { RowAnswers (value_row code.now values.now (state_of proc.old)) result (state_of proc.old) (state_of proc.new) values.now values.now }
+    ensures answer { Does (value_row code.now) result proc.old proc.new values.now values.now }
     ensures ran { proc.new.ran ≡ proc.old.ran }
 {
     let id = owned_by(single(values)?)?;

@@ -67,13 +67,13 @@ pub fn text_of(value: &Value) -> Result<&Text, Wrong>
     }
 }
 
-/// The place that an index names among so many, where it is one of them.
-pub fn place_in(index: i64, size: usize) -> Option<usize>
-    ensures { result ≡ place_in index size }
+/// The index that a number is among so many items, where it is one.
+pub fn index_in(number: i64, size: usize) -> Option<usize>
+    ensures { result ≡ place_in number size }
 {
-    if index < 0 {
+    if number < 0 {
         return None;
     }
-    let place = index as usize;
-    if place < size { Some(place) } else { None }
+    let index = number as usize;
+    if index < size { Some(index) } else { None }
 }

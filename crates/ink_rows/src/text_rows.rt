@@ -6,10 +6,10 @@ ghost use Rattle.ink_code.specs.TextRows.{join_row, same_text_row, other_text_ro
 ghost use Rattle.ink_rows.specs.Answers.{Answers, TakesNoMemory};
 
 use crate::computed::{Computed, RowFault};
-use crate::operands::{int_of, pair, place_in, single, text_of};
-use crate::texts::index_text;
+use crate::operands::{index_in, int_of, pair, single, text_of};
+use crate::texts::{index_text, limit_text_of};
 use ink_base::{Limit, Limits, Text, TextFault, Value};
-use ink_code::Wrong;
+use ink_code::{Wrong, row_numbers as rows};
 use std::alloc::Global;
 
 /// Both texts in order, where that is no longer than the limit.
@@ -22,9 +22,7 @@ fn join(alloc: Global, limits: &Limits, values: &[Value]) -> Result<Computed, Ro
     let b = text_of(other)?;
     match a.joined(alloc, b, limits.get(Limit::Text)) {
         Ok(text) => Ok(Computed::Gives(Value::Txt(text))),
-        Err(TextFault::TooLong(_)) => {
-            Ok(Computed::Raises(Text::of(alloc, b"limit reached: text")?))
-        }
+        Err(TextFault::TooLong(_)) => { Ok(Computed::Raises(limit_text_of(alloc, Limit::Text)?)) }
         Err(TextFault::OutOfMemory) => Err(RowFault::OutOfMemory),
     }
 }
@@ -73,17 +71,17 @@ fn is_empty(values: &[Value]) -> Result<Computed, RowFault>
     Ok(Computed::Gives(Value::Bool(text.bytes().is_empty())))
 }
 
-/// The byte in a place of a text.
+/// The byte at an index of a text.
 #[tactic(auto, unfolding(ink_code::specs::Machine::after, ink_code::specs::TextRows::byte_row))]
 fn byte(alloc: Global, values: &[Value]) -> Result<Computed, RowFault>
     ensures { Answers result (byte_row values.now) }
 {
     let (one, other) = pair(values)?;
     let bytes = text_of(one)?.bytes();
-    let index = int_of(other)?;
-    match place_in(index, bytes.len()) {
-        Some(place) => Ok(Computed::Gives(Value::Int(i64::from(bytes[place])))),
-        None => Ok(Computed::Raises(index_text(alloc, index, bytes.len())?)),
+    let number = int_of(other)?;
+    match index_in(number, bytes.len()) {
+        Some(index) => Ok(Computed::Gives(Value::Int(i64::from(bytes[index])))),
+        None => Ok(Computed::Raises(index_text(alloc, number, bytes.len())?)),
     }
 }
 
@@ -119,14 +117,14 @@ pub fn text_row(
     ensures { Answers result (text_rows limits.now row values.now) }
 {
     match row {
-        21 => join(alloc, limits, values),
-        22 => same(values),
-        23 => differs(values),
-        24 => size(values),
-        25 => is_empty(values),
-        26 => byte(alloc, values),
-        27 => starts_with(values),
-        28 => to_string(alloc, values),
+        rows::STRING_JOIN => join(alloc, limits, values),
+        rows::STRING_EQUAL => same(values),
+        rows::STRING_UNEQUAL => differs(values),
+        rows::STRING_SIZE => size(values),
+        rows::STRING_IS_EMPTY => is_empty(values),
+        rows::STRING_BYTE => byte(alloc, values),
+        rows::STRING_STARTS_WITH => starts_with(values),
+        rows::STRING_TO_STRING => to_string(alloc, values),
         _ => Err(RowFault::Wrong(Wrong::Absent)),
     }
 }

@@ -1,9 +1,10 @@
 //! The texts with which rows and instructions panic, where these tell numbers or limits.
-ghost use Rattle.std.specs.Prelude.{◌≡◌, ◌++◌, codes, IfOk};
+ghost use Rattle.std.specs.Prelude.{◌≡◌, ◌<◌, ◌++◌, codes, IfNone, IfOk, IsSome, Some};
 ghost use Rattle.std.specs.Fmt.{signed_decimal};
 ghost use Rattle.ink_base.specs.Actions.{reached};
 ghost use Rattle.ink_base.specs.Limits.{panic_text};
 ghost use Rattle.ink_base.specs.Panics.{drop_text, index_text};
+ghost use Rattle.ink_code.specs.Full.{full_text, most_made};
 ghost use Rattle.ink_code.specs.Machine.{passed};
 
 use ink_base::{Limit, Limits, Text};
@@ -11,7 +12,7 @@ use itoa::Buffer;
 use std::alloc::{AllocError, Global};
 
 /// How that text begins.
-fn index_named(alloc: Global, index: i64) -> Result<Vec<u8>, AllocError>
+fn index_text_front(alloc: Global, index: i64) -> Result<Vec<u8>, AllocError>
     ensures { IfOk result (λ bytes. bytes.items ≡ codes "index " ++ signed_decimal index) }
 {
     let mut buffer = Buffer::new();
@@ -25,7 +26,7 @@ pub fn index_text(alloc: Global, index: i64, size: usize) -> Result<Text, AllocE
     ensures { IfOk result (λ text. text ≡ index_text index size) }
 {
     let mut buffer = Buffer::new();
-    let mut bytes = index_named(alloc, index)?;
+    let mut bytes = index_text_front(alloc, index)?;
     bytes.extend_from_slice(b" is out of bounds, size ")?;
     bytes.extend_from_slice(buffer.format(size).as_bytes())?;
     Ok(Text::from_bytes(bytes))
@@ -47,6 +48,17 @@ pub fn drop_text(alloc: Global, name: &Text, borrows: u64) -> Result<Text, Alloc
         out.extend_from_slice(b" borrows")?;
     }
     Ok(Text::from_bytes(out))
+}
+
+/// With which text there is a panic at that limit, at which there is one.
+pub fn limit_text_of(alloc: Global, limit: Limit) -> Result<Text, AllocError>
+    requires { IsSome (panic_text limit) }
+    ensures { IfOk result (λ text. panic_text limit ≡ Some text) }
+{
+    match limit.panic_text() {
+        None => unreachable!(),
+        Some(text) => Text::of(alloc, text.as_bytes()),
+    }
 }
 
 /// With which text there is a panic at that limit, if there is one.
@@ -86,6 +98,29 @@ pub fn passed_text(
 {
     if limits.get(limit) < count {
         limit_text(alloc, limit)
+    } else {
+        Ok(None)
+    }
+}
+
+/// The text of the panic of a process that makes an object where so many live, and it ever made so many: first the limit
+/// of those that live. `None` where it can make one.
+#[tactic(auto, unfolding(ink_code::specs::Full::full_text))]
+pub fn full_text(
+    alloc: Global,
+    limits: &Limits,
+    live: u64,
+    made: u64,
+) -> Result<Option<Text>, AllocError>
+    ensures text { IfOk result (λ text. text ≡ full_text limits.now live made) }
+    ensures room { IfOk result (λ text. IfNone text (made < most_made)) }
+{
+    let full = reached_text(alloc, limits, Limit::Objects, live)?;
+    if full.is_some() {
+        return Ok(full);
+    }
+    if limits.get(Limit::Serial) <= made {
+        limit_text(alloc, Limit::Serial)
     } else {
         Ok(None)
     }

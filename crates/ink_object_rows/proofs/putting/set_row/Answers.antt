@@ -10,28 +10,28 @@ use Rattle.ink_object_rows.proofs.putting.set_row.Goals as goal
 
 pub end_borrow-requires : goal.end_borrow-requires
 end_borrow-requires c =
-    let s : HasSpot c.args.values.now c.args.proc.now.heap.objects c.in-Item.id c.in-Item.place = subst (λ target. IsTarget (Ok target) c.args.values.now c.args.proc.now.heap.objects) c.in-Item.is c.in_ok-text.ensures in
+    let s : HasSpot c.args.values.now c.args.proc.now.heap.objects c.in-Item.id c.in-Item.index = subst (λ target. IsTarget (Ok target) c.args.values.now c.args.proc.now.heap.objects) c.in-Item.is c.in_ok-text.ensures in
     ap (λ heap. is_counted (get heap.objects c.in-Item.id)) c.write_item-old.ensures.objects
-    ∙ still_counted c.args.proc.now.heap.objects c.in-Item.id s.found (with_field c.in-Item.place c.replace-item.result) s.there refl s.counted
+    ∙ still_counted c.args.proc.now.heap.objects c.in-Item.id s.found (with_field c.in-Item.index c.replace-item.result) s.there refl s.counted
 
 pub write_item-requires : goal.write_item-requires
 write_item-requires c =
-    let s : HasSpot c.args.values.now c.args.proc.now.heap.objects c.in-Item.id c.in-Item.place = subst (λ target. IsTarget (Ok target) c.args.values.now c.args.proc.now.heap.objects) c.in-Item.is c.in_ok-text.ensures in
-    field_is_written c.args.values.now c.args.proc.now.heap.objects c.in-Item.id c.in-Item.place c.replace-item.result c.write_item-old.new.heap.objects s (ap (λ heap. heap.objects) c.write_item-old.ensures.objects)
+    let s : HasSpot c.args.values.now c.args.proc.now.heap.objects c.in-Item.id c.in-Item.index = subst (λ target. IsTarget (Ok target) c.args.values.now c.args.proc.now.heap.objects) c.in-Item.is c.in_ok-text.ensures in
+    field_is_written c.args.values.now c.args.proc.now.heap.objects c.in-Item.id c.in-Item.index c.replace-item.result c.write_item-old.new.heap.objects s (ap (λ heap. heap.objects) c.write_item-old.ensures.objects)
 
 pub returns-in-Ok-clause-answer : goal.returns-in-Ok-clause-answer
 returns-in-Ok-clause-answer c =
-    let s : HasSpot c.args.values.now c.args.proc.now.heap.objects c.in-Item.id c.in-Item.place = subst (λ target. IsTarget (Ok target) c.args.values.now c.args.proc.now.heap.objects) c.in-Item.is c.in_ok-text.ensures in
+    let s : HasSpot c.args.values.now c.args.proc.now.heap.objects c.in-Item.id c.in-Item.index = subst (λ target. IsTarget (Ok target) c.args.values.now c.args.proc.now.heap.objects) c.in-Item.is c.in_ok-text.ensures in
     let item : c.replace-item.result ≡ s.value = c.replace-item.ensures.value ∙ get_or_from_slice_get c.args.values.now 2 s.value c.index-values-2.result s.last in
-    set_done c.args.values.now (state_of c.args.proc.now) c.in-Item.id c.in-Item.place c.replace-item.result c.write_item-old.result c.write_item-old.new.heap.objects c.end_borrow.new.heap.objects c.push.new.self s item c.write_item-old.ensures.old (ap (λ heap. heap.objects) c.write_item-old.ensures.objects) (ap (λ heap. heap.objects) c.end_borrow.ensures) c.in-Ok.ensures.ok
+    set_done c.args.values.now (state_of c.args.proc.now) c.in-Item.id c.in-Item.index c.replace-item.result c.write_item-old.result c.write_item-old.new.heap.objects c.end_borrow.new.heap.objects c.push.new.self s item c.write_item-old.ensures.old (ap (λ heap. heap.objects) c.write_item-old.ensures.objects) (ap (λ heap. heap.objects) c.end_borrow.ensures) c.in-Ok.ensures.ok
 
 pub returns-in-Err-clause-answer : goal.returns-in-Err-clause-answer
 returns-in-Err-clause-answer c =
-    let s : HasSpot c.args.values.now c.args.proc.now.heap.objects c.in-Item.id c.in-Item.place = subst (λ target. IsTarget (Ok target) c.args.values.now c.args.proc.now.heap.objects) c.in-Item.is c.in_ok-text.ensures in
+    let s : HasSpot c.args.values.now c.args.proc.now.heap.objects c.in-Item.id c.in-Item.index = subst (λ target. IsTarget (Ok target) c.args.values.now c.args.proc.now.heap.objects) c.in-Item.is c.in_ok-text.ensures in
     let item : c.replace-item.result ≡ s.value = c.replace-item.ensures.value ∙ get_or_from_slice_get c.args.values.now 2 s.value c.index-values-2.result s.last in
     let mid : c.write_item-old.new.heap.objects ≡ _ = ap (λ heap. heap.objects) c.write_item-old.ensures.objects in (
       same_state (state_of c.args.proc.now) c.write_item.new.heap.objects c.push.new.self
-          (objects_back c.args.values.now c.args.proc.now.heap.objects c.in-Item.id c.in-Item.place c.replace-item.result c.write_item-old.result c.in-Err.failed.value c.write_item-old.new.heap.objects c.write_item.new.heap.objects s c.write_item-old.ensures.old mid c.in-Err.ensures.back (ap (λ heap. heap.objects) c.write_item.ensures.objects))
+          (objects_back c.args.values.now c.args.proc.now.heap.objects c.in-Item.id c.in-Item.index c.replace-item.result c.write_item-old.result c.in-Err.failed.value c.write_item-old.new.heap.objects c.write_item.new.heap.objects s c.write_item-old.ensures.old mid c.in-Err.ensures.back (ap (λ heap. heap.objects) c.write_item.ensures.objects))
           c.in-Err.ensures.err,
-      values_back c.args.values.now c.args.proc.now.heap.objects c.in-Item.id c.in-Item.place c.replace-item.result c.replace-item.new.dest c.write_item.result c.write_item-old.new.heap.objects s item mid c.write_item.ensures.old,
+      values_back c.args.values.now c.args.proc.now.heap.objects c.in-Item.id c.in-Item.index c.replace-item.result c.replace-item.new.dest c.write_item.result c.write_item-old.new.heap.objects s item mid c.write_item.ensures.old,
     )
