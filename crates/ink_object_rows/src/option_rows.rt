@@ -131,7 +131,7 @@ fn owned_by(value: &Value) -> Result<ObjectId, Wrong>
 /// The panic where an Option is given up that so many borrows are counted of.
 #[tactic(auto, unfolding(ink_code::specs::Machine::given))]
 fn panic_borrowed(alloc: Global, proc: &Proc, code: &Code, count: u64) -> Result<Computed, RowFault>
-    ensures { RowAnswers (given Wrong.Place (slice_get code.now.kinds option_kind) (λ name. fails (drop_text name count) (state_of proc.now))) result (state_of proc.now) (state_of proc.now) [] [] }
+    ensures { RowAnswers (given Wrong.Absent (slice_get code.now.kinds option_kind) (λ name. fails (drop_text name count) (state_of proc.now))) result (state_of proc.now) (state_of proc.now) [] [] }
 {
     match code.kinds.get(u64::from(OPTION_KIND)) {
         None => Err(RowFault::Wrong(Wrong::Absent)),

@@ -82,7 +82,7 @@ fn panic_borrowed(
     kind: u32,
     count: u64,
 ) -> Result<Stepped, StepFault>
-    ensures { Answers (given Wrong.Place (slice_get code.now.kinds kind) (λ name. panics (drop_text name count) (state_of proc.now))) result (state_of proc.now) (state_of proc.now) }
+    ensures { Answers (given Wrong.Absent (slice_get code.now.kinds kind) (λ name. panics (drop_text name count) (state_of proc.now))) result (state_of proc.now) (state_of proc.now) }
 {
     match code.kinds.get(u64::from(kind)) {
         None => Err(StepFault::Wrong(Wrong::Absent)),
