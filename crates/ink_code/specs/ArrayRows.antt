@@ -9,8 +9,10 @@ use Rattle.ink_base.specs.Panics.{cycle_text, index_text}
 use Rattle.ink_code.specs.declared.wrong.Wrong.TheVariants as wrong
 use Rattle.ink_code.specs.Machine.{after, unless, with_objects}
 use Rattle.ink_base.specs.Objects.{changed_object, with_field}
-use Rattle.ink_code.specs.Objects.{array_kind, with_fields}
+use Rattle.ink_code.specs.Kinds.{array_kind}
+use Rattle.ink_code.specs.Objects.{with_fields}
 use Rattle.ink_code.specs.Process.{Process}
+use Rattle.ink_code.specs.RowNumbers as rows
 use Rattle.ink_code.specs.Rows.{RowOutcome, gives, fails, unless_fails, unless_full, no_operand, single, pair, int_of, place_in, receives, gives_option, gives_lent}
 use Rattle.ink_code.specs.Trees.{is_under}
 
@@ -90,13 +92,13 @@ clear_row values p =
 -- the rows by number
 unfoldable pub array_rows : List ℕ → ℕ → List Value → Process → RowOutcome
 array_rows limits row values p =
-    if row == 29 then size_row values p
-    else (if row == 30 then empty_row values p
-    else (if row == 31 then push_row limits values p
-    else (if row == 32 then pop_row limits values p
-    else (if row == 33 then get_row limits values p
-    else (if row == 34 then get_row limits values p
-    else (if row == 35 then set_row values p
-    else (if row == 36 then swap_row values p
-    else (if row == 37 then clear_row values p
+    if row == rows.array_size then size_row values p
+    else (if row == rows.array_is_empty then empty_row values p
+    else (if row == rows.array_push then push_row limits values p
+    else (if row == rows.array_pop then pop_row limits values p
+    else (if row == rows.array_get then get_row limits values p
+    else (if row == rows.array_get_mut then get_row limits values p
+    else (if row == rows.array_set then set_row values p
+    else (if row == rows.array_swap then swap_row values p
+    else (if row == rows.array_clear then clear_row values p
     else Err wrong.Absent))))))))

@@ -5,6 +5,7 @@ use Rattle.ink_base.specs.declared.value.Value.TheVariants as v
 use Rattle.ink_code.specs.declared.wrong.Wrong.TheVariants as wrong
 use Rattle.ink_code.specs.Machine.{after}
 use Rattle.ink_code.specs.Moves.{truth_of}
+use Rattle.ink_code.specs.RowNumbers as rows
 use Rattle.ink_code.specs.Rows.{Computation, computes, single, pair}
 
 abbrev pub same_truth : Bool → Bool → Bool
@@ -34,8 +35,8 @@ bool_to_string_row values =
 -- the rows by number
 unfoldable pub bool_rows : ℕ → List Value → Computation
 bool_rows row values =
-    if row == 17 then same_row values
-    else (if row == 18 then other_row values
-    else (if row == 19 then false_row values
-    else (if row == 20 then bool_to_string_row values
+    if row == rows.bool_equal then same_row values
+    else (if row == rows.bool_unequal then other_row values
+    else (if row == rows.bool_is_false then false_row values
+    else (if row == rows.bool_to_string then bool_to_string_row values
     else Err wrong.Absent)))

@@ -8,6 +8,7 @@ use Rattle.ink_base.specs.declared.value.Value.TheVariants as v
 use Rattle.ink_base.specs.Panics.{division_text, shift_text}
 use Rattle.ink_code.specs.declared.wrong.Wrong.TheVariants as wrong
 use Rattle.ink_code.specs.Machine.{after}
+use Rattle.ink_code.specs.RowNumbers as rows
 use Rattle.ink_code.specs.Rows.{Computation, computes, raises, single, pair, int_of, int_or_overflow}
 use mir.Syntax.{w64}
 
@@ -105,21 +106,21 @@ shift_down_row values = of_ints values (shift_row int_shr)
 -- the rows by number: the first seventeen of the table
 unfoldable pub int_rows : ℕ → List Value → Computation
 int_rows row values =
-    if row == 0 then add_row values
-    else (if row == 1 then subtract_row values
-    else (if row == 2 then multiply_row values
-    else (if row == 3 then divide_row values
-    else (if row == 4 then rest_row values
-    else (if row == 5 then equal_row values
-    else (if row == 6 then unequal_row values
-    else (if row == 7 then less_row values
-    else (if row == 8 then at_most_row values
-    else (if row == 9 then greater_row values
-    else (if row == 10 then at_least_row values
-    else (if row == 11 then bit_and_row values
-    else (if row == 12 then bit_or_row values
-    else (if row == 13 then bit_xor_row values
-    else (if row == 14 then shift_up_row values
-    else (if row == 15 then shift_down_row values
-    else (if row == 16 then int_to_string_row values
+    if row == rows.int_add then add_row values
+    else (if row == rows.int_subtract then subtract_row values
+    else (if row == rows.int_multiply then multiply_row values
+    else (if row == rows.int_divide then divide_row values
+    else (if row == rows.int_rest then rest_row values
+    else (if row == rows.int_equal then equal_row values
+    else (if row == rows.int_unequal then unequal_row values
+    else (if row == rows.int_less then less_row values
+    else (if row == rows.int_at_most then at_most_row values
+    else (if row == rows.int_greater then greater_row values
+    else (if row == rows.int_at_least then at_least_row values
+    else (if row == rows.int_bit_and then bit_and_row values
+    else (if row == rows.int_bit_or then bit_or_row values
+    else (if row == rows.int_bit_xor then bit_xor_row values
+    else (if row == rows.int_shift_up then shift_up_row values
+    else (if row == rows.int_shift_down then shift_down_row values
+    else (if row == rows.int_to_string then int_to_string_row values
     else Err wrong.Absent))))))))))))))))

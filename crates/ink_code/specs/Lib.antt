@@ -3,7 +3,9 @@ pub mod BoolRows
 pub mod Calls
 pub mod Drops
 pub mod Fetch
+pub mod Full
 pub mod IntRows
+pub mod Kinds
 pub mod Listing
 pub mod Machine
 pub mod Makes
@@ -14,6 +16,7 @@ pub mod Prims
 pub mod Process
 pub mod Replies
 pub mod Rounds
+pub mod RowNumbers
 pub mod Rows
 pub mod Runs
 pub mod Slice

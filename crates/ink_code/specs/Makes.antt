@@ -5,23 +5,23 @@ use Rattle.ink_base.specs.declared.ident.ObjectId.{ObjectId}
 use Rattle.ink_base.specs.declared.limits.Limit.TheVariants as limit
 use Rattle.ink_base.specs.declared.value.Value.{Value}
 use Rattle.ink_base.specs.declared.value.Value.TheVariants as v
-use Rattle.ink_base.specs.Actions.{reached}
 use Rattle.ink_base.specs.Panics.{cycle_text, drop_text}
 use Rattle.ink_code.specs.declared.code.Code.{Code}
 use Rattle.ink_code.specs.declared.frame.Frame.{Frame}
 use Rattle.ink_base.specs.declared.object.Object.{Object}
 use Rattle.ink_code.specs.declared.wrong.Wrong.TheVariants as wrong
+use Rattle.ink_code.specs.Full.{full_text}
+use Rattle.ink_code.specs.Kinds.{array_kind}
 use Rattle.ink_code.specs.Machine.{Outcome, given, unless, unless_text, after, went, panics, passed, has, reads, put, with_objects}
 use Rattle.ink_code.specs.Moves.{copies}
 use Rattle.ink_base.specs.Objects.{changed_object, with_field}
-use Rattle.ink_code.specs.Objects.{array_kind, object_at, field_at, lent, object_of, owned_by}
+use Rattle.ink_code.specs.Objects.{object_at, field_at, lent, object_of, owned_by}
 use Rattle.ink_code.specs.Process.{Process, next_id, with_register, taken_out, put_out}
 use Rattle.ink_code.specs.Trees.{is_under}
 
 -- the limits of a process that makes an object: first those that live, then those that it ever made
 abbrev pub unless_full : List ℕ → Process → Outcome → Outcome
-unless_full limits p further =
-    unless_text (reached limit.Objects (len p.objects) limits) p (unless_text (reached limit.Serial p.made limits) p further)
+unless_full limits p further = unless_text (full_text limits (len p.objects) p.made) p further
 
 -- a process with one more object, which no borrow is counted of
 abbrev pub with_made : ℕ → ℕ → List Value → Process → Process

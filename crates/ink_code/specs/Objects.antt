@@ -9,23 +9,6 @@ use Rattle.ink_base.specs.Objects.{Objects, counted_up, counted_down}
 use Rattle.ink_code.specs.declared.wrong.Wrong.{Wrong}
 use Rattle.ink_code.specs.declared.wrong.Wrong.TheVariants as wrong
 
--- the types that rows make and read, by their numbers, which are the same in each code
-abbrev pub option_kind : ℕ
-option_kind = 5
-
-abbrev pub array_kind : ℕ
-array_kind = 7
-
-abbrev pub stdout_kind : ℕ
-stdout_kind = 10
-
--- the tags of an Option
-abbrev pub some_tag : ℕ
-some_tag = 0
-
-abbrev pub none_tag : ℕ
-none_tag = 1
-
 -- an object that is there, or the instruction is wrong
 abbrev pub there : Option Object → Result Object Wrong
 there None = Err wrong.Object

@@ -8,8 +8,10 @@ use Rattle.ink_code.specs.declared.code.Code.{Code}
 use Rattle.ink_base.specs.declared.object.Object.{Object}
 use Rattle.ink_code.specs.declared.wrong.Wrong.TheVariants as wrong
 use Rattle.ink_code.specs.Machine.{given, needs, unless, after, with_objects}
-use Rattle.ink_code.specs.Objects.{option_kind, stdout_kind, some_tag, object_at, owned_by}
+use Rattle.ink_code.specs.Kinds.{option_kind, stdout_kind, some_tag}
+use Rattle.ink_code.specs.Objects.{object_at, owned_by}
 use Rattle.ink_code.specs.Process.{Process}
+use Rattle.ink_code.specs.RowNumbers as rows
 use Rattle.ink_code.specs.Rows.{RowOutcome, gives, fails, no_operand, single, receives, unless_full, gives_lent, gives_made}
 
 -- whether an Option has a value
@@ -49,10 +51,10 @@ stdout_row limits values p = no_operand values (unless_full limits p (gives_made
 -- the rows by number
 unfoldable pub option_rows : Code → List ℕ → ℕ → List Value → Process → RowOutcome
 option_rows code limits row values p =
-    if row == 38 then some_row values p
-    else (if row == 39 then none_row values p
-    else (if row == 40 then value_row code values p
-    else (if row == 41 then as_ref_row limits values p
-    else (if row == 42 then as_ref_row limits values p
-    else (if row == 47 then stdout_row limits values p
+    if row == rows.option_is_some then some_row values p
+    else (if row == rows.option_is_none then none_row values p
+    else (if row == rows.option_get then value_row code values p
+    else (if row == rows.option_as_ref then as_ref_row limits values p
+    else (if row == rows.option_as_mut then as_ref_row limits values p
+    else (if row == rows.stdout_new then stdout_row limits values p
     else Err wrong.Absent)))))

@@ -9,6 +9,7 @@ use Rattle.ink_code.specs.IntRows.{int_rows}
 use Rattle.ink_code.specs.Machine.{Outcome, after, panics, settles, has, put}
 use Rattle.ink_code.specs.OptionRows.{option_rows}
 use Rattle.ink_code.specs.Process.{Process, taken_out}
+use Rattle.ink_code.specs.RowNumbers as rows
 use Rattle.ink_code.specs.Rows.{Computed, Gives, Raises, Computation, RowOutcome}
 use Rattle.ink_code.specs.TextRows.{text_rows}
 
@@ -19,15 +20,15 @@ leaves p computation = after computation (λ computed. Ok (computed, p))
 -- the rows that only compute: those of Int, Bool and String
 unfoldable pub value_rows : List ℕ → ℕ → List Value → Computation
 value_rows limits row values =
-    if nat_lt row 17 then int_rows row values
-    else (if nat_lt row 21 then bool_rows row values
+    if nat_lt row rows.first_of_bool then int_rows row values
+    else (if nat_lt row rows.first_of_string then bool_rows row values
     else text_rows limits row values)
 
 -- a row on values, which were moved to it
 unfoldable pub row_step : Code → List ℕ → ℕ → List Value → Process → RowOutcome
 row_step code limits row values p =
-    if nat_lt row 29 then leaves p (value_rows limits row values)
-    else (if nat_lt row 38 then array_rows limits row values p
+    if nat_lt row rows.first_of_array then leaves p (value_rows limits row values)
+    else (if nat_lt row rows.first_of_option then array_rows limits row values p
     else option_rows code limits row values p)
 
 -- what the row came to, from a process and after its operands were moved: a value goes to a register, and a panic leaves

@@ -2,17 +2,17 @@
 use Rattle.std.specs.Prelude.{ℕ, ℤ, pos, negsuc, ◌==◌, ◌-◌, ◌^◌, ◌&&◌, int_le, nat_lt, if◌then◌else◌, Bool, Option, None, Some, Result, Ok, Err, List, [], ◌∷◌}
 use Rattle.std.specs.FinMap.{len}
 use Rattle.ink_base.specs.declared.ident.ObjectId.{ObjectId}
-use Rattle.ink_base.specs.declared.limits.Limit.TheVariants as limit
 use Rattle.ink_base.specs.declared.value.Value.{Value}
 use Rattle.ink_base.specs.declared.value.Value.TheVariants as v
-use Rattle.ink_base.specs.Actions.{reached}
 use Rattle.ink_base.specs.Panics.{overflow_text}
 use Rattle.ink_base.specs.declared.object.Object.{Object}
 use Rattle.ink_code.specs.declared.wrong.Wrong.{Wrong}
 use Rattle.ink_code.specs.declared.wrong.Wrong.TheVariants as wrong
+use Rattle.ink_code.specs.Full.{full_text}
+use Rattle.ink_code.specs.Kinds.{option_kind, some_tag, none_tag}
 use Rattle.ink_code.specs.Machine.{needs, after, with_objects}
 use Rattle.ink_code.specs.Makes.{with_made}
-use Rattle.ink_code.specs.Objects.{option_kind, some_tag, none_tag, lent, object_at, after_copy, after_borrow}
+use Rattle.ink_code.specs.Objects.{lent, object_at, after_copy, after_borrow}
 use Rattle.ink_code.specs.Process.{Process, next_id}
 
 -- what a row comes to: a value, or a panic with a text
@@ -91,8 +91,7 @@ receives kind (receiver ∷ operands) p further =
 
 -- the limits of a row that makes an object: first those that live, then those that the process ever made
 abbrev pub unless_full : List ℕ → Process → RowOutcome → RowOutcome
-unless_full limits p further =
-    unless_fails (reached limit.Objects (len p.objects) limits) p (unless_fails (reached limit.Serial p.made limits) p further)
+unless_full limits p further = unless_fails (full_text limits (len p.objects) p.made) p further
 
 -- a new object is given
 abbrev pub gives_made : ℕ → ℕ → List Value → Process → RowOutcome

@@ -9,6 +9,7 @@ use Rattle.ink_base.specs.Panics.{index_text}
 use Rattle.ink_code.specs.declared.wrong.Wrong.TheVariants as wrong
 use Rattle.ink_code.specs.Machine.{after, passed}
 use Rattle.ink_code.specs.Moves.{text_of}
+use Rattle.ink_code.specs.RowNumbers as rows
 use Rattle.ink_code.specs.Rows.{Computation, computes, raises, single, pair, int_of, place_in}
 
 -- a row of one text
@@ -60,12 +61,12 @@ text_to_string_row values = of_text values (λ text. computes (v.Txt text))
 -- the rows by number
 unfoldable pub text_rows : List ℕ → ℕ → List Value → Computation
 text_rows limits row values =
-    if row == 21 then join_row limits values
-    else (if row == 22 then same_text_row values
-    else (if row == 23 then other_text_row values
-    else (if row == 24 then text_size_row values
-    else (if row == 25 then text_empty_row values
-    else (if row == 26 then byte_row values
-    else (if row == 27 then starts_with_row values
-    else (if row == 28 then text_to_string_row values
+    if row == rows.string_join then join_row limits values
+    else (if row == rows.string_equal then same_text_row values
+    else (if row == rows.string_unequal then other_text_row values
+    else (if row == rows.string_size then text_size_row values
+    else (if row == rows.string_is_empty then text_empty_row values
+    else (if row == rows.string_byte then byte_row values
+    else (if row == rows.string_starts_with then starts_with_row values
+    else (if row == rows.string_to_string then text_to_string_row values
     else Err wrong.Absent)))))))

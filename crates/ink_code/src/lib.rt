@@ -8,14 +8,17 @@
 mod code;
 mod frame;
 mod instr;
+mod kinds;
 mod lines;
 mod method;
 mod numbers;
+pub mod row_numbers;
 mod wrong;
 
 pub use code::{Code, Impl};
 pub use frame::Frame;
 pub use instr::Instr;
+pub use kinds::{ARRAY_KIND, NONE_TAG, OPTION_KIND, SOME_TAG, STDOUT_KIND};
 pub use lines::listing;
 pub use method::Method;
 pub use wrong::Wrong;

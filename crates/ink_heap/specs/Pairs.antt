@@ -14,7 +14,7 @@ abbrev pub AreApart : Pairs → Type 0
 AreApart [] = Unit {0}
 AreApart (pair ∷ pairs) = (find id_cmp pair.0 pairs ≡ None) × AreApart pairs
 
--- the name stands at this place, with the object that the map of the pairs has under it
+-- the name stands at this index, with the object that the map of the pairs has under it
 abbrev pub HoldsName : Pairs → ℕ → ObjectId → Type 0
-HoldsName pairs place id =
-    (place < length pairs) × ((object : Object) × (slice_get pairs place ≡ Some (id, object)) × (get (from_entries {R = id_cmp} pairs) id ≡ Some object))
+HoldsName pairs index id =
+    (index < length pairs) × ((object : Object) × (slice_get pairs index ≡ Some (id, object)) × (get (from_entries {R = id_cmp} pairs) id ≡ Some object))

@@ -1,17 +1,21 @@
 //! The heap: a vector of pairs that is searched from its start.
-ghost use Rattle.std.specs.Prelude.{◌≡◌, ◌+◌, ◌<◌, ◌≤◌, ◌^◌, ◌↔◌, length, Option, IsOk, IsSome, IsTrue, IfErr, IfNone, IfSome, OnErr, OnOk, OnSome};
+ghost use Rattle.std.specs.Prelude.{◌≡◌, ◌+◌, ◌<◌, ◌≤◌, ◌↔◌, length, Option, IsOk, IsSome, IsTrue, IfErr, IfNone, IfSome, OnErr, OnOk, OnSome};
 ghost use Rattle.std.specs.Bool.{OnFalse, OnTrue};
 ghost use Rattle.std.specs.Option.{option_and_then, option_copied, option_map};
 ghost use Rattle.std.specs.FinMap as map;
 ghost use Rattle.std.specs.List.{slice_get};
 ghost use Rattle.ink_base.specs.Objects.{changed_object, counted_down, counted_up, is_counted};
 ghost use Rattle.ink_heap.specs.Answers.{IsFreeAnswer, IsMakeAnswer, IsPopAnswer, IsPushAnswer, IsWriteAnswer};
+ghost use Rattle.ink_heap.specs.Bounds.{most_borrows};
 
 use crate::fault::{FreeFault, MakeFault, PushFault};
-use crate::place::place_of;
+use crate::index::index_of;
 use ink_base::{Items, Object, ObjectId, Value};
 use std::alloc::{AllocError, Global};
 use std::marker::Model;
+
+/// No more borrows of an object are counted.
+pub const MOST_BORROWS: u64 = 1 << 62;
 
 /// The objects of a process.
 #[derive(Debug, Drop)]
@@ -94,12 +98,12 @@ impl Heap {
     }
 
     /// The value in a field. `None` exactly where there is no such object or field.
-    pub fn read(&self, id: &ObjectId, index: u64) -> Option<&Value>
-        ensures { option_copied result ≡ option_and_then (λ object. slice_get object.fields index) (map.get self.now.objects id.now) }
+    pub fn read(&self, id: &ObjectId, field: u64) -> Option<&Value>
+        ensures { option_copied result ≡ option_and_then (λ object. slice_get object.fields field) (map.get self.now.objects id.now) }
     {
-        match place_of(&self.pairs, id) {
+        match index_of(&self.pairs, id) {
             None => None,
-            Some(place) => self.pairs[place].1.fields.get(index),
+            Some(index) => self.pairs[index].1.fields.get(field),
         }
     }
 
@@ -107,9 +111,9 @@ impl Heap {
     pub fn kind_of(&self, id: &ObjectId) -> Option<(u32, u32)>
         ensures { result ≡ option_map (λ object. (object.kind, object.tag)) (map.get self.now.objects id.now) }
     {
-        match place_of(&self.pairs, id) {
+        match index_of(&self.pairs, id) {
             None => None,
-            Some(place) => Some((self.pairs[place].1.kind, self.pairs[place].1.tag)),
+            Some(index) => Some((self.pairs[index].1.kind, self.pairs[index].1.tag)),
         }
     }
 
@@ -117,9 +121,9 @@ impl Heap {
     pub fn size(&self, id: &ObjectId) -> Option<u64>
         ensures { result ≡ option_map (λ object. length object.fields) (map.get self.now.objects id.now) }
     {
-        match place_of(&self.pairs, id) {
+        match index_of(&self.pairs, id) {
             None => None,
-            Some(place) => Some(self.pairs[place].1.fields.len()),
+            Some(index) => Some(self.pairs[index].1.fields.len()),
         }
     }
 
@@ -127,27 +131,27 @@ impl Heap {
     pub fn count(&self, id: &ObjectId) -> Option<u64>
         ensures { result ≡ option_map (λ object. object.count) (map.get self.now.objects id.now) }
     {
-        match place_of(&self.pairs, id) {
+        match index_of(&self.pairs, id) {
             None => None,
-            Some(place) => Some(self.pairs[place].1.count),
+            Some(index) => Some(self.pairs[index].1.count),
         }
     }
 
     /// Puts a value in a field, and gives the one that stood there.
     ///
     /// The new value comes back as an error exactly where there is no such object or field.
-    pub fn write(&mut self, id: &ObjectId, index: u64, value: Value) -> Result<Value, Value>
-        ensures { IsWriteAnswer result self.old self.new id.now index value }
+    pub fn write(&mut self, id: &ObjectId, field: u64, value: Value) -> Result<Value, Value>
+        ensures { IsWriteAnswer result self.old self.new id.now field value }
     {
-        let place = match place_of(&self.pairs, id) {
+        let index = match index_of(&self.pairs, id) {
             None => return Err(value),
-            Some(place) => place,
+            Some(index) => index,
         };
-        if index >= self.pairs[place].1.fields.len() {
+        if field >= self.pairs[index].1.fields.len() {
             return Err(value);
         }
-        let object = &mut self.pairs[place].1;
-        Ok(object.fields.set(index, value))
+        let object = &mut self.pairs[index].1;
+        Ok(object.fields.set(field, value))
     }
 
     /// Puts a value in a new field behind the others of an object.
@@ -156,14 +160,14 @@ impl Heap {
     pub fn push(&mut self, id: &ObjectId, value: Value, most: u64) -> Result<(), PushFault>
         ensures { IsPushAnswer result self.old self.new id.now value most }
     {
-        let place = match place_of(&self.pairs, id) {
+        let index = match index_of(&self.pairs, id) {
             None => return Err(PushFault::Absent(value)),
-            Some(place) => place,
+            Some(index) => index,
         };
-        if self.pairs[place].1.fields.len() >= most {
+        if self.pairs[index].1.fields.len() >= most {
             return Err(PushFault::Full(value));
         }
-        let object = &mut self.pairs[place].1;
+        let object = &mut self.pairs[index].1;
         if let Err(failed) = object.fields.push(value) {
             return Err(PushFault::OutOfMemory(failed.value));
         }
@@ -174,25 +178,25 @@ impl Heap {
     pub fn pop(&mut self, id: &ObjectId) -> Option<Value>
         ensures { IsPopAnswer result self.old self.new id.now }
     {
-        let place = match place_of(&self.pairs, id) {
+        let index = match index_of(&self.pairs, id) {
             None => return None,
-            Some(place) => place,
+            Some(index) => index,
         };
-        let object = &mut self.pairs[place].1;
+        let object = &mut self.pairs[index].1;
         object.fields.pop()
     }
 
     /// Counts one borrow more. `false` exactly where the object isn't there.
     pub fn count_up(&mut self, id: &ObjectId) -> bool
-        requires { IfSome (map.get self.old.objects id.now) (λ object. object.count < 2 ^ 62) }
+        requires { IfSome (map.get self.old.objects id.now) (λ object. object.count < most_borrows) }
         ensures found { result ≡ map.contains_key self.old.objects id.now }
         ensures after { self.new ≡ record self.old { objects = changed_object self.old.objects id.now counted_up } }
     {
-        let place = match place_of(&self.pairs, id) {
+        let index = match index_of(&self.pairs, id) {
             None => return false,
-            Some(place) => place,
+            Some(index) => index,
         };
-        let object = &mut self.pairs[place].1;
+        let object = &mut self.pairs[index].1;
         object.count += 1;
         true
     }
@@ -203,14 +207,14 @@ impl Heap {
         ensures after { OnTrue result (self.new ≡ record self.old { objects = changed_object self.old.objects id.now counted_down }) }
         ensures none { OnFalse result (self.new ≡ self.old) }
     {
-        let place = match place_of(&self.pairs, id) {
+        let index = match index_of(&self.pairs, id) {
             None => return false,
-            Some(place) => place,
+            Some(index) => index,
         };
-        if self.pairs[place].1.count == 0 {
+        if self.pairs[index].1.count == 0 {
             return false;
         }
-        let object = &mut self.pairs[place].1;
+        let object = &mut self.pairs[index].1;
         object.count -= 1;
         true
     }
@@ -219,15 +223,15 @@ impl Heap {
     pub fn free(&mut self, id: &ObjectId) -> Result<Items<Value>, FreeFault>
         ensures { IsFreeAnswer result self.old self.new id.now (map.get self.old.objects id.now) }
     {
-        let place = match place_of(&self.pairs, id) {
+        let index = match index_of(&self.pairs, id) {
             None => return Err(FreeFault::Absent),
-            Some(place) => place,
+            Some(index) => index,
         };
-        let count = self.pairs[place].1.count;
+        let count = self.pairs[index].1.count;
         if count > 0 {
             return Err(FreeFault::Borrowed(count));
         }
-        let (_, object) = self.pairs.remove(place);
+        let (_, object) = self.pairs.remove(index);
         Ok(object.fields)
     }
 
@@ -249,11 +253,11 @@ impl Heap {
         ensures room { OnSome result (self.old.spare < self.new.spare) }
         ensures absent { IfNone result (self.new ≡ self.old) }
     {
-        let place = match place_of(&self.pairs, id) {
+        let index = match index_of(&self.pairs, id) {
             None => return None,
-            Some(place) => place,
+            Some(index) => index,
         };
-        let (_, object) = self.pairs.remove(place);
+        let (_, object) = self.pairs.remove(index);
         Some(object)
     }
 
@@ -267,7 +271,7 @@ impl Heap {
         ensures back { IfErr result (λ back. back ≡ object) }
         ensures err { OnErr result (self.new ≡ self.old) }
     {
-        if let Some(_) = place_of(&self.pairs, &id) {
+        if let Some(_) = index_of(&self.pairs, &id) {
             return Err(object);
         }
         self.pairs.push_reserved((id, object));

@@ -6,9 +6,7 @@
 
 mod fault;
 mod heap;
-mod place;
-#[cfg(test)]
-mod tests;
+mod index;
 
 pub use fault::{FreeFault, MakeFault, PushFault};
-pub use heap::Heap;
+pub use heap::{Heap, MOST_BORROWS};

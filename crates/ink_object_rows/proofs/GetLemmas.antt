@@ -6,14 +6,15 @@ use Rattle.ink_base.specs.declared.ident.ObjectId.{ObjectId}
 use Rattle.ink_base.specs.declared.value.Value.{Value}
 use Rattle.ink_base.specs.Objects.{Objects, changed_object, counted_down, fields_in}
 use Rattle.ink_code.specs.ArrayRows.{get_row}
+use Rattle.ink_code.specs.Full.{full_text}
 use Rattle.ink_code.specs.Machine.{after, with_objects}
-use Rattle.ink_code.specs.Objects.{array_kind}
+use Rattle.ink_code.specs.Kinds.{array_kind}
 use Rattle.ink_code.specs.Process.{Process}
 use Rattle.ink_code.specs.Rows.{RowOutcome, unless_fails, single, int_of}
 use Rattle.ink_heap.proofs.ObjectsLemmas.{len-changed_object}
 use Rattle.ink_object_rows.specs.Answers.{RowAnswers, raised}
 use Rattle.ink_object_rows.specs.Items.{lent_item}
-use Rattle.ink_object_rows.specs.Making.{full_text, gives_copy}
+use Rattle.ink_object_rows.specs.Making.{gives_copy}
 use Rattle.ink_object_rows.specs.Receiver.{Received, Receives, received}
 use Rattle.ink_object_rows.proofs.RowLemmas.{get_row-received}
 use Rattle.ink_rows.specs.declared.computed.Computed.{Computed}

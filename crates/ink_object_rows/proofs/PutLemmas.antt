@@ -15,7 +15,8 @@ use Rattle.ink_base.specs.Panics.{cycle_text}
 use Rattle.ink_code.specs.declared.wrong.Wrong.{Wrong}
 use Rattle.ink_code.specs.ArrayRows.{push_row, with_items}
 use Rattle.ink_code.specs.Machine.{after, unless, with_objects}
-use Rattle.ink_code.specs.Objects.{array_kind, with_fields}
+use Rattle.ink_code.specs.Kinds.{array_kind}
+use Rattle.ink_code.specs.Objects.{with_fields}
 use Rattle.ink_code.specs.Process.{Process}
 use Rattle.ink_code.specs.Rows.{gives, fails, single, unless_fails}
 use Rattle.ink_code.specs.Trees.{is_under}

@@ -1,5 +1,5 @@
 -- Objects of which one has another count.
-use Rattle.std.proofs.Common.{◌≡◌, ◌<◌, ◌^◌, Bool, true, false, cond, Option, None, Some, refl, sym, subst, arith}
+use Rattle.std.proofs.Common.{◌≡◌, ◌<◌, Bool, true, false, cond, Option, None, Some, refl, sym, subst, arith}
 use Rattle.std.specs.Prelude.{IfSome}
 use Rattle.std.specs.Option.{option_map}
 use Rattle.std.specs.FinMap.{get}
@@ -8,12 +8,13 @@ use Rattle.ink_base.specs.declared.object.Object.{Object}
 use Rattle.ink_base.specs.declared.value.Value.{Value}
 use Rattle.ink_base.specs.declared.value.Value.TheVariants as v
 use Rattle.ink_base.specs.Objects.{Objects, changed_object, counted_down}
+use Rattle.ink_heap.specs.Bounds.{most_borrows}
 use Rattle.ink_heap.proofs.ObjectsLemmas.{get-changed_object, len-changed_object, is_same, is_same-one}
-use Rattle.ink_object_rows.specs.Making.{HasRoom}
+use Rattle.ink_proc.specs.Copying.{HasRoom}
 
 -- the object has room for one borrow more, where it is there
 abbrev pub Small : Option Object → Type 0
-Small found = IfSome found (λ object. object.count < 2 ^ 62)
+Small found = IfSome found (λ object. object.count < most_borrows)
 
 fewer : (found : Option Object) → Small found → Small (option_map counted_down found)
 fewer None small = small

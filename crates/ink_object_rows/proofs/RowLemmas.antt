@@ -5,20 +5,20 @@ use Rattle.std.specs.Option.{option_map}
 use Rattle.std.specs.FinMap.{len}
 use Rattle.ink_base.specs.declared.value.Value.{Value}
 use Rattle.ink_base.specs.declared.value.Value.TheVariants as v
-use Rattle.ink_base.specs.declared.limits.Limit.TheVariants as limit
-use Rattle.ink_base.specs.Actions.{reached}
 use Rattle.ink_base.specs.Objects.{changed_object}
 use Rattle.ink_code.specs.declared.wrong.Wrong.{Wrong}
 use Rattle.ink_code.specs.declared.wrong.Wrong.TheVariants as wrong
 use Rattle.ink_heap.proofs.ObjectsLemmas.{len-changed_object}
 use Rattle.ink_code.specs.ArrayRows.{size_row, empty_row, pop_row, get_row, clear_row, item_at, with_items}
 use Rattle.ink_code.specs.OptionRows.{some_row, none_row, stdout_row, as_ref_row, has_value, lends_value}
+use Rattle.ink_code.specs.Full.{full_text}
 use Rattle.ink_code.specs.Machine.{after, given, with_objects}
-use Rattle.ink_code.specs.Objects.{array_kind, option_kind, stdout_kind, lent, with_fields}
+use Rattle.ink_code.specs.Kinds.{array_kind, option_kind, stdout_kind}
+use Rattle.ink_code.specs.Objects.{lent, with_fields}
 use Rattle.ink_code.specs.Process.{Process}
 use Rattle.ink_code.specs.Rows.{RowOutcome, gives, no_operand, unless_fails, unless_full, gives_made, gives_lent, gives_option, place_in, single, int_of}
 use Rattle.ink_object_rows.specs.Items.{last_item, other_items, lent_item}
-use Rattle.ink_object_rows.specs.Making.{text_or, full_text, gives_copy, lent_value}
+use Rattle.ink_object_rows.specs.Making.{gives_copy, lent_value}
 use Rattle.ink_object_rows.specs.Receiver.{Received, received, received_alone}
 use Rattle.ink_object_rows.proofs.ReceiverLemmas.{receives-alone, receives-received}
 use Rattle.ink_object_rows.proofs.ChangeLemmas.{insert_back, insert_after}
@@ -41,19 +41,9 @@ none_row-alone values p = receives-alone option_kind values p _
 
 pub ruleset reads = (size_row-alone, empty_row-alone, some_row-alone, none_row-alone)
 
--- the two limits of a row that makes an object are tested as one
-full : (first second : Option (List ℕ)) (p : Process) (further : RowOutcome) → unless_fails first p (unless_fails second p further) ≡ unless_fails (text_or first second) p further
-unfolding unless_fails
-full None second p further = refl
-full (Some text) second p further = refl
-
-pub unless_full-text : (limits : List ℕ) (p : Process) (further : RowOutcome) → unless_full limits p further ≡ unless_fails (full_text limits (len p.objects) p.made) p further
-unfolding full_text
-unless_full-text limits p further = full (reached limit.Objects (len p.objects) limits) (reached limit.Serial p.made limits) p further
-
 pub stdout_row-full : (limits : List ℕ) (values : List Value) (p : Process) → stdout_row limits values p ≡ no_operand values (unless_fails (full_text limits (len p.objects) p.made) p (gives_made stdout_kind 0 [] p))
 unfolding stdout_row
-stdout_row-full limits values p = ap (no_operand values) (unless_full-text limits p (gives_made stdout_kind 0 [] p))
+stdout_row-full limits values p = refl
 
 after-alike : {A : Type 0} (answer : Result A Wrong) (one other : A → RowOutcome) → ((value : A) → one value ≡ other value) → after answer one ≡ after answer other
 unfolding after
@@ -78,8 +68,7 @@ lends-copy false item p = refl
 as_ref_step : (limits : List ℕ) (p : Process) (one : Received) → unless_full limits (with_objects one.left p) (lends_value (has_value one.found) (slice_get one.found.fields 0) (with_objects one.left p)) ≡ unless_fails (full_text limits (len one.left) p.made) (with_objects one.left p) (after (lent_value (Some one.found)) (λ copy. gives_copy copy (with_objects one.left p)))
 unfolding lent_value
 as_ref_step limits p one =
-    unless_full-text limits (with_objects one.left p) _
-    ∙ ap (unless_fails (full_text limits (len one.left) p.made) (with_objects one.left p)) (lends-copy (has_value one.found) (slice_get one.found.fields 0) (with_objects one.left p))
+    ap (unless_fails (full_text limits (len one.left) p.made) (with_objects one.left p)) (lends-copy (has_value one.found) (slice_get one.found.fields 0) (with_objects one.left p))
 
 pub as_ref_row-alone : (limits : List ℕ) (values : List Value) (p : Process) → as_ref_row limits values p ≡ after (received_alone option_kind values p.objects) (λ one. unless_fails (full_text limits (len one.left) p.made) (with_objects one.left p) (after (lent_value (Some one.found)) (λ copy. gives_copy copy (with_objects one.left p))))
 unfolding as_ref_row
@@ -93,7 +82,6 @@ pub pop_row-alone : (limits : List ℕ) (values : List Value) (p : Process) → 
 unfolding pop_row
 pop_row-alone limits values p =
     receives-alone array_kind values p (λ id found q. unless_full limits q (gives_option (last_item found.fields) (with_items id (other_items found.fields) q)))
-    ∙ after-alike (received_alone array_kind values p.objects) _ _ (λ one. unless_full-text limits (with_objects one.left p) _)
 
 pub clear_row-alone : (values : List Value) (p : Process) → clear_row values p ≡ after (received_alone array_kind values p.objects) (λ one. gives v.Nil (record (with_items one.id [] (with_objects one.left p)) { pending = one.found.fields ++ p.pending }))
 unfolding clear_row
@@ -101,8 +89,7 @@ clear_row-alone values p = receives-alone array_kind values p _
 
 get_end : (limits : List ℕ) (p : Process) (one : Received) (index : ℤ) → unless_full limits (with_objects one.left p) (gives_lent (item_at one.found.fields (place_in index (length one.found.fields))) (with_objects one.left p)) ≡ unless_fails (full_text limits (len one.left) p.made) (with_objects one.left p) (gives_copy (lent_item index one.found.fields) (with_objects one.left p))
 get_end limits p one index =
-    unless_full-text limits (with_objects one.left p) _
-    ∙ ap (unless_fails (full_text limits (len one.left) p.made) (with_objects one.left p)) (gives_lent-copy (item_at one.found.fields (place_in index (length one.found.fields))) (with_objects one.left p))
+    ap (unless_fails (full_text limits (len one.left) p.made) (with_objects one.left p)) (gives_lent-copy (item_at one.found.fields (place_in index (length one.found.fields))) (with_objects one.left p))
 
 pub get_row-received : (limits : List ℕ) (values : List Value) (p : Process) → get_row limits values p ≡ after (received array_kind values p.objects) (λ one. after (single one.operands) (λ value. after (int_of value) (λ index. unless_fails (full_text limits (len one.left) p.made) (with_objects one.left p) (gives_copy (lent_item index one.found.fields) (with_objects one.left p)))))
 unfolding get_row

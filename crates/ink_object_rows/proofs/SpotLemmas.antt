@@ -16,7 +16,7 @@ use Rattle.ink_base.specs.Objects.{Objects, changed_object, counted_down, with_f
 use Rattle.ink_base.specs.Panics.{cycle_text}
 use Rattle.ink_code.specs.ArrayRows.{push_row, set_row, swap_row, with_items}
 use Rattle.ink_code.specs.Machine.{after, unless, with_objects}
-use Rattle.ink_code.specs.Objects.{array_kind}
+use Rattle.ink_code.specs.Kinds.{array_kind}
 use Rattle.ink_code.specs.Process.{Process}
 use Rattle.ink_code.specs.Rows.{RowOutcome, Gives, gives, fails, single, unless_fails}
 use Rattle.ink_code.specs.Trees.{is_under}

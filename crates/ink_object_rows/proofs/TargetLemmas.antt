@@ -7,7 +7,7 @@ use Rattle.ink_base.specs.Panics.{cycle_text}
 use Rattle.ink_code.specs.declared.wrong.Wrong.{Wrong}
 use Rattle.ink_code.specs.ArrayRows.{set_row, swap_row, at_item, found_item, unless_cycle, with_item}
 use Rattle.ink_code.specs.Machine.{after, unless, with_objects}
-use Rattle.ink_code.specs.Objects.{array_kind}
+use Rattle.ink_code.specs.Kinds.{array_kind}
 use Rattle.ink_code.specs.Process.{Process}
 use Rattle.ink_code.specs.Rows.{RowOutcome, gives, fails, pair, int_of, place_in, receives}
 use Rattle.ink_code.specs.Trees.{is_under}

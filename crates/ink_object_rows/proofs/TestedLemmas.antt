@@ -10,7 +10,7 @@ use Rattle.ink_base.specs.Objects.{Objects, changed_object, counted_down}
 use Rattle.ink_base.specs.Panics.{cycle_text, index_text}
 use Rattle.ink_code.specs.declared.wrong.Wrong.{Wrong}
 use Rattle.ink_code.specs.Machine.{after}
-use Rattle.ink_code.specs.Objects.{array_kind}
+use Rattle.ink_code.specs.Kinds.{array_kind}
 use Rattle.ink_code.specs.Rows.{pair, int_of, place_in}
 use Rattle.ink_code.specs.Trees.{is_under}
 use Rattle.ink_object_rows.specs.Receiver.{Received, Receives, received}

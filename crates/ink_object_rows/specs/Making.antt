@@ -1,12 +1,9 @@
 -- What a row wants before it makes an object.
-use Rattle.std.specs.Prelude.{ℕ, ◌<◌, ◌^◌, if◌then◌else◌, Option, None, Some, Result, Ok, Err, List, IfSome, slice_get}
+use Rattle.std.specs.Prelude.{if◌then◌else◌, Option, None, Some, Result, Ok, Err, slice_get}
 use Rattle.std.specs.FinMap.{get, remove}
-use Rattle.ink_base.specs.declared.limits.Limit.TheVariants as limit
 use Rattle.ink_base.specs.declared.ident.ObjectId.{ObjectId}
 use Rattle.ink_base.specs.declared.object.Object.{Object}
 use Rattle.ink_base.specs.declared.value.Value.{Value}
-use Rattle.ink_base.specs.declared.value.Value.TheVariants as v
-use Rattle.ink_base.specs.Actions.{reached}
 use Rattle.ink_base.specs.Objects.{Objects}
 use Rattle.ink_code.specs.declared.wrong.Wrong.{Wrong}
 use Rattle.ink_code.specs.declared.wrong.Wrong.TheVariants as wrong
@@ -15,22 +12,9 @@ use Rattle.ink_code.specs.Objects.{after_copy, lent}
 use Rattle.ink_code.specs.OptionRows.{has_value}
 use Rattle.ink_code.specs.Process.{Process}
 use Rattle.ink_code.specs.Rows.{RowOutcome, gives, gives_option}
+use Rattle.ink_proc.specs.Copying.{HasRoom}
 
--- the first text where there is one, and else the other
-abbrev pub text_or : Option (List ℕ) → Option (List ℕ) → Option (List ℕ)
-text_or None other = other
-text_or (Some text) other = Some text
-
--- the text of the panic of a process that makes an object where so many live, and it ever made so many
-unfoldable pub full_text : List ℕ → ℕ → ℕ → Option (List ℕ)
-full_text limits live made = text_or (reached limit.Objects live limits) (reached limit.Serial made limits)
-
--- one borrow more can be counted, where the value is one
-unfoldable pub HasRoom : Value → Objects → Type 0
-HasRoom (v.Bor id) objects = IfSome (get objects id) (λ object. object.count < 2 ^ 62)
-HasRoom value objects = Unit {0}
-
--- that, where there is a value
+-- a copy can be counted of the value, where there is one
 abbrev pub AllHaveRoom : Option Value → Objects → Type 0
 AllHaveRoom None objects = Unit {0}
 AllHaveRoom (Some value) objects = HasRoom value objects

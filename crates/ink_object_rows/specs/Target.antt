@@ -9,7 +9,7 @@ use Rattle.ink_base.specs.Panics.{cycle_text, index_text}
 use Rattle.ink_code.specs.declared.wrong.Wrong.{Wrong}
 use Rattle.ink_code.specs.declared.wrong.Wrong.TheVariants as wrong
 use Rattle.ink_code.specs.Machine.{after, with_objects}
-use Rattle.ink_code.specs.Objects.{array_kind}
+use Rattle.ink_code.specs.Kinds.{array_kind}
 use Rattle.ink_code.specs.Process.{Process}
 use Rattle.ink_code.specs.Rows.{RowOutcome, fails, pair, int_of, place_in}
 use Rattle.ink_code.specs.Trees.{is_under}

@@ -5,17 +5,15 @@ ghost use Rattle.ink_proc.specs.State.{state_of};
 ghost use Rattle.ink_object_rows.specs.Answers.{RowAnswers};
 
 use crate::items::{lent_item, pop_item};
-use crate::making::{full_text, give_lent, give_option};
+use crate::making::{give_lent, give_option};
 use crate::receiver::{end_borrow, lone_receiver, receiver};
 use ink_base::{Items, Limits, Object, Value};
-use ink_code::Wrong;
+use ink_code::{ARRAY_KIND, Wrong};
 use ink_proc::{Proc, put_over};
 use ink_rows::operands::{int_of, single};
+use ink_rows::texts::full_text;
 use ink_rows::{Computed, RowFault};
 use std::alloc::Global;
-
-/// The number of the type of arrays, in each code.
-pub(crate) const ARRAY_KIND: u32 = 7;
 
 /// How many items an array has. One of 2^63 items has no Int for that, and is answered as out of memory.
 #[tactic(auto, using(crate::proofs::RowLemmas::reads), unfolding(ink_code::specs::Machine::after))]

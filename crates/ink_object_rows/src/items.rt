@@ -5,10 +5,10 @@ ghost use Rattle.std.specs.Option.{option_and_then};
 ghost use Rattle.ink_base.specs.Objects.{changed_object, fields_in, is_counted, with_field, with_more};
 ghost use Rattle.ink_object_rows.specs.Items.{after_row, last_item, lent_item, other_items};
 
-use crate::making::lent;
 use crate::receiver::end_borrow;
 use ink_base::{ObjectId, Value};
 use ink_heap::{Heap, PushFault};
+use ink_proc::borrow_of;
 use ink_rows::operands::place_in;
 use std::alloc::{AllocError, Global};
 
@@ -29,7 +29,7 @@ pub(crate) fn lent_item(
         None => Ok(None),
         Some(place) => match heap.read(id, place as u64) {
             None => Ok(None),
-            Some(value) => Ok(Some(lent(value.copy(alloc)?))),
+            Some(value) => Ok(Some(borrow_of(value.copy(alloc)?))),
         },
     }
 }

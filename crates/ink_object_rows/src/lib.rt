@@ -14,8 +14,6 @@ mod putting;
 mod receiver;
 mod rows;
 mod target;
-#[cfg(test)]
-mod tests;
 
 pub use array_rows::{clear_row, empty_row, get_row, pop_row, size_row};
 pub use option_rows::{as_ref_row, none_row, some_row, stdout_row, value_row};

@@ -3,26 +3,24 @@ ghost use Rattle.std.specs.Prelude.{◌≡◌, [], slice_get};
 ghost use Rattle.std.specs.FinMap as map;
 ghost use Rattle.ink_base.specs.Panics.{drop_text};
 ghost use Rattle.ink_code.specs.Machine.{given};
-ghost use Rattle.ink_code.specs.Objects.{option_kind, owned_by};
+ghost use Rattle.ink_code.specs.Kinds.{option_kind};
+ghost use Rattle.ink_code.specs.Objects.{owned_by};
 ghost use Rattle.ink_code.specs.OptionRows.{as_ref_row, none_row, some_row, stdout_row, value_row};
 ghost use Rattle.ink_code.specs.Rows.{fails};
 ghost use Rattle.ink_proc.specs.State.{state_of};
 ghost use Rattle.ink_object_rows.specs.Answers.{Comes, Finds, RowAnswers};
 ghost use Rattle.ink_object_rows.specs.Making.{lent_value, value_given};
 
-use crate::making::{OPTION_KIND, SOME_TAG, full_text, give_lent, give_made, lent};
+use crate::making::{give_lent, give_made};
 use crate::receiver::{end_borrow, lone_receiver};
 use ink_base::{Items, Limits, ObjectId, Text, Value};
-use ink_code::{Code, Wrong};
+use ink_code::{Code, OPTION_KIND, SOME_TAG, STDOUT_KIND, Wrong};
 use ink_heap::Heap;
-use ink_proc::Proc;
+use ink_proc::{Proc, borrow_of};
 use ink_rows::operands::single;
-use ink_rows::texts::drop_text;
+use ink_rows::texts::{drop_text, full_text};
 use ink_rows::{Computed, RowFault};
 use std::alloc::Global;
-
-/// The number of the type of a Stdout, in each code.
-const STDOUT_KIND: u32 = 10;
 
 /// Whether an Option has a value.
 #[tactic(auto, using(crate::proofs::RowLemmas::reads), unfolding(ink_code::specs::Machine::after))]
@@ -93,7 +91,7 @@ fn lent_value(alloc: Global, heap: &Heap, id: &ObjectId) -> Result<Option<Value>
     }
     match heap.read(id, 0) {
         None => Err(RowFault::Wrong(Wrong::Absent)),
-        Some(value) => Ok(Some(lent(value.copy(alloc)?))),
+        Some(value) => Ok(Some(borrow_of(value.copy(alloc)?))),
     }
 }
 

@@ -4,12 +4,11 @@ ghost use Rattle.ink_code.specs.ArrayRows.{push_row, set_row, swap_row};
 ghost use Rattle.ink_proc.specs.State.{state_of};
 ghost use Rattle.ink_object_rows.specs.Answers.{RowAnswers};
 
-use crate::array_rows::ARRAY_KIND;
 use crate::items::{push_item, write_item};
 use crate::receiver::{end_borrow, receiver};
 use crate::target::{Target, find_target};
 use ink_base::{Limit, Limits, Text, Value};
-use ink_code::Wrong;
+use ink_code::{ARRAY_KIND, Wrong};
 use ink_parcel::is_under;
 use ink_proc::Proc;
 use ink_rows::operands::single;

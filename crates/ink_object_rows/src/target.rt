@@ -1,10 +1,9 @@
 //! The place of an array in which a row puts an item.
 ghost use Rattle.ink_object_rows.specs.Target.{IsTarget};
 
-use crate::array_rows::ARRAY_KIND;
 use crate::receiver::receiver;
 use ink_base::{ObjectId, Text, Value};
-use ink_code::Wrong;
+use ink_code::{ARRAY_KIND, Wrong};
 use ink_heap::Heap;
 use ink_parcel::is_under;
 use ink_rows::RowFault;

@@ -9,8 +9,6 @@ mod cutting;
 mod fault;
 mod joining;
 mod parcel;
-#[cfg(test)]
-mod tests;
 mod tree;
 mod under;
 

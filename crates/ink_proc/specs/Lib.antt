@@ -1,3 +1,4 @@
 pub mod Answers
+pub mod Copying
 pub mod Starts
 pub mod State

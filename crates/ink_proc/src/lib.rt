@@ -5,15 +5,15 @@
 //! the end of a vector. What an instruction does is not known here.
 #![tactic(auto)]
 
+mod copying;
 mod fault;
 mod frames;
 mod moving;
 mod pending;
 mod process;
 mod putting;
-#[cfg(test)]
-mod tests;
 
+pub use copying::{borrow_of, count_copy, has_room};
 pub use fault::{EnterFault, StartFault, TakeApartFault, WaitFault};
 pub use frames::Frames;
 pub use pending::Pending;

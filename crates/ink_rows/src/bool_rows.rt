@@ -8,7 +8,7 @@ ghost use Rattle.ink_rows.specs.Answers.{Answers, TakesNoMemory};
 use crate::computed::{Computed, RowFault};
 use crate::operands::{pair, single, truth_of};
 use ink_base::{Text, Value};
-use ink_code::Wrong;
+use ink_code::{Wrong, row_numbers as rows};
 use std::alloc::Global;
 
 /// Whether two Bools are the same.
@@ -63,10 +63,10 @@ pub fn bool_row(alloc: Global, row: u32, values: &[Value]) -> Result<Computed, R
     ensures { Answers result (bool_rows row values.now) }
 {
     match row {
-        17 => same(values),
-        18 => differs(values),
-        19 => opposite(values),
-        20 => to_string(alloc, values),
+        rows::BOOL_EQUAL => same(values),
+        rows::BOOL_UNEQUAL => differs(values),
+        rows::BOOL_IS_FALSE => opposite(values),
+        rows::BOOL_TO_STRING => to_string(alloc, values),
         _ => Err(RowFault::Wrong(Wrong::Absent)),
     }
 }

@@ -10,7 +10,7 @@ use crate::divided::{floor_quotient, floor_rest};
 use crate::operands::{int_of, pair, single};
 use crate::shifts::{shift_down, shift_up};
 use ink_base::{Text, Value};
-use ink_code::Wrong;
+use ink_code::{Wrong, row_numbers as rows};
 use itoa::Buffer;
 use std::alloc::Global;
 
@@ -212,23 +212,23 @@ pub fn int_row(alloc: Global, row: u32, values: &[Value]) -> Result<Computed, Ro
     ensures { Answers result (int_rows row values.now) }
 {
     match row {
-        0 => add(alloc, values),
-        1 => subtract(alloc, values),
-        2 => multiply(alloc, values),
-        3 => divide(alloc, values),
-        4 => rest(alloc, values),
-        5 => equal(values),
-        6 => unequal(values),
-        7 => less(values),
-        8 => at_most(values),
-        9 => greater(values),
-        10 => at_least(values),
-        11 => bit_and(values),
-        12 => bit_or(values),
-        13 => bit_xor(values),
-        14 => shift_up(alloc, values),
-        15 => shift_down(alloc, values),
-        16 => to_string(alloc, values),
+        rows::INT_ADD => add(alloc, values),
+        rows::INT_SUBTRACT => subtract(alloc, values),
+        rows::INT_MULTIPLY => multiply(alloc, values),
+        rows::INT_DIVIDE => divide(alloc, values),
+        rows::INT_REST => rest(alloc, values),
+        rows::INT_EQUAL => equal(values),
+        rows::INT_UNEQUAL => unequal(values),
+        rows::INT_LESS => less(values),
+        rows::INT_AT_MOST => at_most(values),
+        rows::INT_GREATER => greater(values),
+        rows::INT_AT_LEAST => at_least(values),
+        rows::INT_BIT_AND => bit_and(values),
+        rows::INT_BIT_OR => bit_or(values),
+        rows::INT_BIT_XOR => bit_xor(values),
+        rows::INT_SHIFT_UP => shift_up(alloc, values),
+        rows::INT_SHIFT_DOWN => shift_down(alloc, values),
+        rows::INT_TO_STRING => to_string(alloc, values),
         _ => Err(RowFault::Wrong(Wrong::Absent)),
     }
 }

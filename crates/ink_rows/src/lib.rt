@@ -12,8 +12,6 @@ mod divided;
 mod int_rows;
 pub mod operands;
 mod shifts;
-#[cfg(test)]
-mod tests;
 mod text_rows;
 pub mod texts;
 mod value_rows;

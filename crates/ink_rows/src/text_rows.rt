@@ -9,7 +9,7 @@ use crate::computed::{Computed, RowFault};
 use crate::operands::{int_of, pair, place_in, single, text_of};
 use crate::texts::index_text;
 use ink_base::{Limit, Limits, Text, TextFault, Value};
-use ink_code::Wrong;
+use ink_code::{Wrong, row_numbers as rows};
 use std::alloc::Global;
 
 /// Both texts in order, where that is no longer than the limit.
@@ -119,14 +119,14 @@ pub fn text_row(
     ensures { Answers result (text_rows limits.now row values.now) }
 {
     match row {
-        21 => join(alloc, limits, values),
-        22 => same(values),
-        23 => differs(values),
-        24 => size(values),
-        25 => is_empty(values),
-        26 => byte(alloc, values),
-        27 => starts_with(values),
-        28 => to_string(alloc, values),
+        rows::STRING_JOIN => join(alloc, limits, values),
+        rows::STRING_EQUAL => same(values),
+        rows::STRING_UNEQUAL => differs(values),
+        rows::STRING_SIZE => size(values),
+        rows::STRING_IS_EMPTY => is_empty(values),
+        rows::STRING_BYTE => byte(alloc, values),
+        rows::STRING_STARTS_WITH => starts_with(values),
+        rows::STRING_TO_STRING => to_string(alloc, values),
         _ => Err(RowFault::Wrong(Wrong::Absent)),
     }
 }

@@ -1,9 +1,10 @@
 //! The texts with which rows and instructions panic, where these tell numbers or limits.
-ghost use Rattle.std.specs.Prelude.{◌≡◌, ◌++◌, codes, IfOk};
+ghost use Rattle.std.specs.Prelude.{◌≡◌, ◌<◌, ◌++◌, codes, IfNone, IfOk};
 ghost use Rattle.std.specs.Fmt.{signed_decimal};
 ghost use Rattle.ink_base.specs.Actions.{reached};
 ghost use Rattle.ink_base.specs.Limits.{panic_text};
 ghost use Rattle.ink_base.specs.Panics.{drop_text, index_text};
+ghost use Rattle.ink_code.specs.Full.{full_text, most_made};
 ghost use Rattle.ink_code.specs.Machine.{passed};
 
 use ink_base::{Limit, Limits, Text};
@@ -86,6 +87,29 @@ pub fn passed_text(
 {
     if limits.get(limit) < count {
         limit_text(alloc, limit)
+    } else {
+        Ok(None)
+    }
+}
+
+/// The text of the panic of a process that makes an object where so many live, and it ever made so many: first the limit
+/// of those that live. `None` where it can make one.
+#[tactic(auto, unfolding(ink_code::specs::Full::full_text))]
+pub fn full_text(
+    alloc: Global,
+    limits: &Limits,
+    live: u64,
+    made: u64,
+) -> Result<Option<Text>, AllocError>
+    ensures text { IfOk result (λ text. text ≡ full_text limits.now live made) }
+    ensures room { IfOk result (λ text. IfNone text (made < most_made)) }
+{
+    let full = reached_text(alloc, limits, Limit::Objects, live)?;
+    if full.is_some() {
+        return Ok(full);
+    }
+    if limits.get(Limit::Serial) <= made {
+        limit_text(alloc, Limit::Serial)
     } else {
         Ok(None)
     }

@@ -11,16 +11,16 @@ returns-in-None-clause-after c =
 pub overflow_add-object : goal.overflow_add-object
 overflow_add-object c =
     let at = (rw c.deref.ensures.value at c.in-Some.ensures) in
-    let found = get-held _ _ _ c.self.view_is c.self.invariant c.in-Some.place c.args.id.now at _ c.index_mut.ensures.value in
+    let found = get-held _ _ _ c.self.view_is c.self.invariant c.in-Some.index c.args.id.now at _ c.index_mut.ensures.value in
     let low : c.index_mut.result.now.1.count < 2 ^ 62 = subst (λ found. IfSome found (λ object. object.count < 2 ^ 62)) found c.requires in
     search rules
 
 pub invariant_of-self : goal.invariant_of-self
 invariant_of-self c =
     let at = (rw c.deref.ensures.value at c.in-Some.ensures) in
-    AreApart-changed _ _ _ c.self.view_is c.self.invariant c.in-Some.place c.args.id.now at _ c.index_mut.ensures.value counted_up
+    AreApart-changed _ _ _ c.self.view_is c.self.invariant c.in-Some.index c.args.id.now at _ c.index_mut.ensures.value counted_up
 
 pub returns-clause-after : goal.returns-clause-after
 returns-clause-after c =
     let at = (rw c.deref.ensures.value at c.in-Some.ensures) in
-    seen-changed _ _ _ c.self.view_is c.self.invariant c.in-Some.place c.args.id.now at _ c.index_mut.ensures.value counted_up
+    seen-changed _ _ _ c.self.view_is c.self.invariant c.in-Some.index c.args.id.now at _ c.index_mut.ensures.value counted_up

@@ -14,15 +14,15 @@ fn is_same(one: &ObjectId, other: &ObjectId) -> bool
     one.compare(other).is_eq()
 }
 
-/// The place where a name stands.
-pub(crate) fn place_of(pairs: &[(ObjectId, Object)], id: &ObjectId) -> Option<usize>
+/// The index at which a name stands.
+pub(crate) fn index_of(pairs: &[(ObjectId, Object)], id: &ObjectId) -> Option<usize>
     requires { AreApart pairs.now }
     ensures { MatchOption result (get (from_entries {R = id_cmp} pairs.now) id.now ≡ Option.None)
-        (λ place. HoldsName pairs.now place id.now) }
+        (λ index. HoldsName pairs.now index id.now) }
 {
-    for (place, pair) in pairs.iter().enumerate() {
+    for (index, pair) in pairs.iter().enumerate() {
         if is_same(id, &pair.0) {
-            return Some(place);
+            return Some(index);
         }
     }
     None
