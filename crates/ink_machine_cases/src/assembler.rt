@@ -16,7 +16,8 @@ use std::alloc::{AllocError, AllocFailed, Global};
 
 /// The names of the types that each code has, from type 0 on.
 const TYPES: [&str; 11] = [
-    "Int", "Bool", "Nil", "String", "Never", "Option", "Pair", "Array", "Future", "Promise", "Stdout",
+    "Int", "Bool", "Nil", "String", "Never", "Option", "Pair", "Array", "Future", "Promise",
+    "Stdout",
 ];
 
 /// The most instructions that a method has.

@@ -139,7 +139,11 @@ fn listed(alloc: Global, name: &str, operands: &[u32]) -> Result<Option<Instr>, 
 }
 
 /// The instruction of that name with these operands, in the order of a listing. `None` where there is no such one.
-pub fn instruction(alloc: Global, name: &str, operands: &[u32]) -> Result<Option<Instr>, AllocError> {
+pub fn instruction(
+    alloc: Global,
+    name: &str,
+    operands: &[u32],
+) -> Result<Option<Instr>, AllocError> {
     match fixed(name, operands) {
         Some(instr) => Ok(Some(instr)),
         None => listed(alloc, name, operands),

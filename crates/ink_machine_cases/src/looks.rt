@@ -19,7 +19,10 @@ pub fn frames_text(alloc: Global, process: &Proc) -> Result<String, AllocError> 
     let mut text = format!(in alloc; "{}", process.frames.len())?;
     for frame in process.frames.as_slice().iter().rev() {
         let registers = values_text(alloc, frame.registers.as_slice())?;
-        let line = format!(in alloc; "\n    method {} at {}:{registers}", frame.method, frame.place)?;
+        let line = format!(in alloc;
+            "\n    method {} at {}:{registers}",
+            frame.method, frame.place
+        )?;
         text.push_str(line.as_str())?;
     }
     Ok(text)
@@ -42,7 +45,10 @@ fn object_text(alloc: Global, heap: &Heap, id: &ObjectId) -> Result<String, Allo
     match (heap.kind_of(id), heap.count(id), heap.size(id)) {
         (Some((kind, tag)), Some(count), Some(size)) => {
             let fields = fields_text(alloc, heap, id, size)?;
-            format!(in alloc; "\n    {}.{} type {kind} tag {tag} borrows {count}:{fields}", id.process, id.serial)
+            format!(in alloc;
+                "\n    {}.{} type {kind} tag {tag} borrows {count}:{fields}",
+                id.process, id.serial
+            )
         }
         _ => Ok(String::new(alloc)),
     }

@@ -27,7 +27,11 @@ fn run_case<R: Print + AllocGlobal>(rt: &R, case: &str) -> io::Result<()> {
     let code = match assemble(rt.alloc(), code) {
         Ok(code) => code,
         Err(fault) => {
-            return rt.println(format!(in rt.alloc(); "  line {} of the code: {}", fault.line, fault.why.text())?);
+            return rt.println(format!(in rt.alloc();
+                "  line {} of the code: {}",
+                fault.line,
+                fault.why.text()
+            )?);
         }
     };
     let (number, lines) = script.split_once("\n").unwrap_or((script, ""));

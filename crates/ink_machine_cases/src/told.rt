@@ -83,10 +83,7 @@ fn request_text(alloc: Global, request: &Request) -> Result<String, AllocError> 
 }
 
 /// What a step or a slice came to.
-pub fn came_text(
-    alloc: Global,
-    came: &Result<Stepped, StepFault>,
-) -> Result<String, AllocError> {
+pub fn came_text(alloc: Global, came: &Result<Stepped, StepFault>) -> Result<String, AllocError> {
     match came {
         Ok(Stepped::Went) => String::from_str(alloc, "went"),
         Ok(Stepped::Wants(request)) => request_text(alloc, request),
