@@ -39,7 +39,7 @@ fn resume(proc: &mut Proc, next: u32)
 
 /// After an action that gives nothing back: the drop of a promise is done, or the instruction is.
 #[tactic(auto, unfolding(ink_code::specs::Machine::given))]
-fn done(proc: &mut Proc, code: &Code) -> Result<(), Wrong>
+fn end_action(proc: &mut Proc, code: &Code) -> Result<(), Wrong>
     ensures { Leaves (after_done code.now proc.old.pending (state_of proc.old)) result (state_of proc.new) }
 {
     let Some((next, _)) = current(code, &proc.frames) else {
@@ -55,7 +55,7 @@ fn done(proc: &mut Proc, code: &Code) -> Result<(), Wrong>
 
 /// After a spawn: a register gets the reference to the new process.
 #[tactic(auto, using(crate::proofs::AnswerLemmas::same_place))]
-fn started(proc: &mut Proc, code: &Code, process: u32) -> Result<(), Wrong>
+fn put_process(proc: &mut Proc, code: &Code, process: u32) -> Result<(), Wrong>
     ensures { Leaves (after_started process (current code.now proc.old.frames) (state_of proc.old)) result (state_of proc.new) }
 {
     match current(code, &proc.frames) {
@@ -70,7 +70,7 @@ fn started(proc: &mut Proc, code: &Code, process: u32) -> Result<(), Wrong>
 
 /// After a future was made: registers get the future and its promise.
 #[tactic(auto, using(crate::proofs::AnswerLemmas::same_place))]
-fn paired(proc: &mut Proc, code: &Code, number: u32) -> Result<(), Wrong>
+fn put_pair(proc: &mut Proc, code: &Code, number: u32) -> Result<(), Wrong>
     ensures { Leaves (after_pair number (current code.now proc.old.frames) (state_of proc.old)) result (state_of proc.new) }
 {
     match current(code, &proc.frames) {
@@ -86,7 +86,7 @@ fn paired(proc: &mut Proc, code: &Code, number: u32) -> Result<(), Wrong>
 
 /// After a get: the future is used up, and a register gets its value.
 #[tactic(auto, using(crate::proofs::AnswerLemmas::same_place))]
-fn got(proc: &mut Proc, code: &Code, parcel: Parcel) -> Result<(), AnswerFault>
+fn put_value(proc: &mut Proc, code: &Code, parcel: Parcel) -> Result<(), AnswerFault>
     requires { AreApartFrom proc.old.heap.objects parcel.objects }
     ensures { AnswersReply (after_got (parcel_of parcel) (current code.now proc.old.frames) (state_of proc.old)) result (OneReply.Got parcel) (state_of proc.old) (state_of proc.new) }
 {
@@ -124,10 +124,10 @@ pub fn answer(alloc: Global, proc: &mut Proc, code: &Code, reply: Reply) -> Resu
         Reply::Message { method, parcel } => {
             return take_message(alloc, proc, code, method, parcel);
         }
-        Reply::Got(parcel) => return got(proc, code, parcel),
-        Reply::Done => done(proc, code),
-        Reply::Process(process) => started(proc, code, process),
-        Reply::NewPair(future) => paired(proc, code, future),
+        Reply::Got(parcel) => return put_value(proc, code, parcel),
+        Reply::Done => end_action(proc, code),
+        Reply::Process(process) => put_process(proc, code, process),
+        Reply::NewPair(future) => put_pair(proc, code, future),
     };
     match done {
         Err(why) => Err(AnswerFault::Wrong(why)),

@@ -1,5 +1,5 @@
 //! A message begins: its method is the first frame of the process.
-ghost use Rattle.std.specs.Prelude.{◌≡◌, ◌≤◌, ◌+◌, [], IfOk};
+ghost use Rattle.std.specs.Prelude.{◌≡◌, ◌≤◌, [], IfOk};
 ghost use Rattle.std.specs.Vec.{vec_capacity};
 ghost use Rattle.ink_code.specs.Replies.{after_taken};
 ghost use Rattle.ink_interp.specs.Answers.{AnswersReply};

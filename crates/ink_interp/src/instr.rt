@@ -1,8 +1,6 @@
 //! Which step an instruction is.
-ghost use Rattle.std.specs.Prelude.{◌<◌, ◌^◌};
 ghost use Rattle.ink_code.specs.Step.{instr_step};
-ghost use Rattle.ink_proc.specs.State.{state_of};
-ghost use Rattle.ink_steps.specs.Answers.{Answers};
+ghost use Rattle.ink_steps.specs.Answers.{IsStep, MayStep};
 
 use crate::prim::prim_step;
 use ink_base::Limits;
@@ -27,8 +25,8 @@ pub(crate) fn instr_step(
     next: u32,
     instr: &Instr,
 ) -> Result<Stepped, StepFault>
-    requires { proc.old.ran < 2 ^ 62 }
-    ensures { Answers (instr_step code.now limits.now next instr.now (state_of proc.old)) result (state_of proc.old) (state_of proc.new) }
+    requires { MayStep proc.old }
+    ensures { IsStep (instr_step code.now limits.now next instr.now) result proc.old proc.new }
 {
     match instr {
         Instr::Const { to, constant } => const_step(alloc, proc, code, next, *to, *constant),

@@ -1,12 +1,12 @@
 //! The step that does a row of the built-in methods.
-ghost use Rattle.std.specs.Prelude.{◌≡◌, ◌<◌, ◌≤◌, ◌^◌, [], length, IfOk, Ok};
+ghost use Rattle.std.specs.Prelude.{◌≡◌, ◌≤◌, [], length, IfOk, Ok};
 ghost use Rattle.std.specs.Vec.{vec_capacity, vec_len};
 ghost use Rattle.ink_code.specs.Machine.{Went, put, settles};
 ghost use Rattle.ink_code.specs.Prims.{prim_step, row_step};
 ghost use Rattle.ink_object_rows.specs.Answers.{RowAnswers};
 ghost use Rattle.ink_interp.specs.Rows.{Tells};
 ghost use Rattle.ink_proc.specs.State.{state_of};
-ghost use Rattle.ink_steps.specs.Answers.{Answers};
+ghost use Rattle.ink_steps.specs.Answers.{IsStep, MayStep};
 
 use ink_base::{Items, Limits, Value};
 use ink_code::{Code, Wrong};
@@ -42,7 +42,7 @@ fn row_of(
 /// A row has given a value, which goes to a register. Where no drop waits, the frame goes on.
 #[tactic(auto, unfolding(ink_code::specs::Machine::settles))]
 fn put_given(proc: &mut Proc, next: u32, to: u32, value: Value)
-    requires { proc.old.ran < 2 ^ 62 }
+    requires { MayStep proc.old }
     ensures { settles next proc.old.pending (put to value (state_of proc.old)) ≡ Ok (Went, state_of proc.new) }
 {
     proc.frames.set(to, value);
@@ -63,7 +63,7 @@ fn tell(
     values: Vec<Value>,
     came: Result<Computed, RowFault>,
 ) -> Result<Stepped, StepFault>
-    requires ran { proc.old.ran < 2 ^ 62 }
+    requires ran { MayStep proc.old }
     requires count { vec_len values ≡ length operands.now }
     ensures { Tells came result next to (state_of proc.old) (state_of proc.new) operands.now values.items }
 {
@@ -111,8 +111,8 @@ pub(crate) fn prim_step(
     to: u32,
     operands: &[u32],
 ) -> Result<Stepped, StepFault>
-    requires { proc.old.ran < 2 ^ 62 }
-    ensures { Answers (prim_step code.now limits.now next row to operands.now (state_of proc.old)) result (state_of proc.old) (state_of proc.new) }
+    requires { MayStep proc.old }
+    ensures { IsStep (prim_step code.now limits.now next row to operands.now) result proc.old proc.new }
 {
     if !proc.frames.has(to) {
         return Err(StepFault::Wrong(Wrong::Absent));

@@ -1,8 +1,6 @@
 //! One step of a process.
-ghost use Rattle.std.specs.Prelude.{◌<◌, ◌^◌};
 ghost use Rattle.ink_code.specs.Step.{code_step, free_step, top_step};
-ghost use Rattle.ink_proc.specs.State.{state_of};
-ghost use Rattle.ink_steps.specs.Answers.{Answers};
+ghost use Rattle.ink_steps.specs.Answers.{IsStep, MayStep};
 
 use crate::instr::instr_step;
 use ink_base::{Limit, Limits};
@@ -19,8 +17,8 @@ fn top_step(
     code: &Code,
     limits: &Limits,
 ) -> Result<Stepped, StepFault>
-    requires { proc.old.ran < 2 ^ 62 }
-    ensures { Answers (top_step code.now limits.now proc.old.frames (state_of proc.old)) result (state_of proc.old) (state_of proc.new) }
+    requires { MayStep proc.old }
+    ensures { IsStep (λ p. top_step code.now limits.now p.frames p) result proc.old proc.new }
 {
     let (method, place) = match proc.frames.top() {
         None => return Ok(Stepped::Wants(Request::Take)),
@@ -40,8 +38,8 @@ fn free_step(
     code: &Code,
     limits: &Limits,
 ) -> Result<Stepped, StepFault>
-    requires { proc.old.ran < 2 ^ 62 }
-    ensures { Answers (free_step code.now limits.now proc.old.pending (state_of proc.old)) result (state_of proc.old) (state_of proc.new) }
+    requires { MayStep proc.old }
+    ensures { IsStep (λ p. free_step code.now limits.now p.pending p) result proc.old proc.new }
 {
     if proc.pending.first().is_some() {
         drop_next(alloc, proc, code)
@@ -61,7 +59,7 @@ pub fn step(
     code: &Code,
     limits: &Limits,
 ) -> Result<Stepped, StepFault>
-    ensures { Answers (code_step code.now limits.now (state_of proc.old)) result (state_of proc.old) (state_of proc.new) }
+    ensures { IsStep (code_step code.now limits.now) result proc.old proc.new }
 {
     if limits.get(Limit::Local) <= proc.ran {
         return Ok(Stepped::Spent(proc.ran));

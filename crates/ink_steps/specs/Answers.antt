@@ -1,5 +1,5 @@
 -- How an answer of the interpreter tells an outcome of the code machine.
-use Rattle.std.specs.Prelude.{◌≡◌, ℕ, Result, Ok, Err, List}
+use Rattle.std.specs.Prelude.{◌≡◌, ℕ, ◌<◌, ◌^◌, Result, Ok, Err, List}
 use Rattle.ink_base.specs.Actions.{Action}
 use Rattle.ink_base.specs.Actions as action
 use Rattle.ink_code.specs.declared.wrong.Wrong.{Wrong}
@@ -9,6 +9,8 @@ use Rattle.ink_base.specs.declared.value.Value.{Value}
 use Rattle.ink_code.specs.Process.{Process}
 use Rattle.ink_code.specs.Trees.{Parcel, Parted}
 use Rattle.ink_parcel.specs.View.{ParcelView, parcel_of}
+use Rattle.ink_proc.specs.declared.process.Proc.{Proc}
+use Rattle.ink_proc.specs.State.{state_of}
 use Rattle.ink_steps.specs.declared.stepped.Request.{Request}
 use Rattle.ink_steps.specs.declared.stepped.Request.TheVariants as request
 use Rattle.ink_steps.specs.declared.stepped.Stepped.{Stepped}
@@ -37,6 +39,18 @@ abbrev pub Answers : machine.Outcome → Result Stepped StepFault → Process �
 Answers outcome (Ok came) old new = outcome ≡ Ok (told came, new)
 Answers outcome (Err (fault.Wrong why)) old new = outcome ≡ Err why
 Answers outcome (Err fault.OutOfMemory) old new = new ≡ old
+
+-- no process makes as many steps between two actions
+abbrev pub most_steps : ℕ
+most_steps = 2 ^ 62
+
+-- a process may make one step more
+abbrev pub MayStep : Proc → Type 0
+MayStep p = p.ran < most_steps
+
+-- the step is the one that is defined so
+abbrev pub IsStep : (Process → machine.Outcome) → Result Stepped StepFault → Proc → Proc → Type 0
+IsStep definition result old new = Answers (definition (state_of old)) result (state_of old) (state_of new)
 
 -- the step was made and left the process so, or the instruction is wrong in that way
 abbrev pub Goes : machine.Outcome → Result (Unit {0}) Wrong → Process → Type 0

@@ -1,12 +1,11 @@
 //! The instructions that begin and end frames.
-ghost use Rattle.std.specs.Prelude.{◌≡◌, ◌<◌, ◌^◌, slice_get};
+ghost use Rattle.std.specs.Prelude.{◌≡◌, slice_get};
 ghost use Rattle.std.specs.Option.{option_copied};
 ghost use Rattle.ink_code.specs.Calls.{first_register, invoke_bound_step, invoke_step, method_in, return_step, target_of};
 ghost use Rattle.ink_code.specs.Process.{held};
-ghost use Rattle.ink_steps.specs.Answers.{Answers};
-ghost use Rattle.ink_proc.specs.State.{state_of};
+ghost use Rattle.ink_steps.specs.Answers.{IsStep, MayStep};
 
-use crate::reads::{copied, object_of};
+use crate::reads::{object_of, register_copy};
 use crate::stepped::{StepFault, Stepped};
 use ink_base::{Limit, Limits, Value};
 use ink_code::{Code, Frame, Impl, Instr, Wrong};
@@ -25,8 +24,8 @@ pub fn invoke_step(
     method: u32,
     arguments: &[u32],
 ) -> Result<Stepped, StepFault>
-    requires { proc.old.ran < 2 ^ 62 }
-    ensures { Answers (invoke_step code.now limits.now to method arguments.now (state_of proc.old)) result (state_of proc.old) (state_of proc.new) }
+    requires { MayStep proc.old }
+    ensures { IsStep (invoke_step code.now limits.now to method arguments.now) result proc.old proc.new }
 {
     if !proc.frames.has(to) {
         return Err(StepFault::Wrong(Wrong::Absent));
@@ -86,14 +85,14 @@ pub fn invoke_bound_step(
     slot: u32,
     arguments: &[u32],
 ) -> Result<Stepped, StepFault>
-    requires { proc.old.ran < 2 ^ 62 }
-    ensures { Answers (invoke_bound_step code.now limits.now to slot arguments.now (state_of proc.old)) result (state_of proc.old) (state_of proc.new) }
+    requires { MayStep proc.old }
+    ensures { IsStep (invoke_bound_step code.now limits.now to slot arguments.now) result proc.old proc.new }
 {
     let first = match first_register(arguments) {
         None => return Err(StepFault::Wrong(Wrong::Absent)),
         Some(first) => first,
     };
-    let named = copied(alloc, &proc.frames, first)?;
+    let named = register_copy(alloc, &proc.frames, first)?;
     let id = object_of(&named)?;
     let kind = match proc.heap.kind_of(&id) {
         None => return Err(StepFault::Wrong(Wrong::Object)),
@@ -129,8 +128,8 @@ fn value_of(mut frame: Frame, number: u32) -> Result<Value, Wrong>
 /// The innermost frame ends with the value of a register.
 #[tactic(auto, unfolding(ink_code::specs::Calls::return_step, ink_code::specs::Machine::given, ink_code::specs::Machine::after))]
 pub fn return_step(proc: &mut Proc, code: &Code, from: u32) -> Result<Stepped, StepFault>
-    requires { proc.old.ran < 2 ^ 62 }
-    ensures { Answers (return_step code.now from (state_of proc.old)) result (state_of proc.old) (state_of proc.new) }
+    requires { MayStep proc.old }
+    ensures { IsStep (return_step code.now from) result proc.old proc.new }
 {
     let frame = match proc.frames.pop() {
         None => return Err(StepFault::Wrong(Wrong::Absent)),

@@ -1,5 +1,5 @@
 //! Drops: those that instructions ask for, and those that wait.
-ghost use Rattle.std.specs.Prelude.{◌≡◌, ◌<◌, ◌^◌, ◌++◌, IfOk, drop, slice_get};
+ghost use Rattle.std.specs.Prelude.{◌++◌, drop, slice_get};
 ghost use Rattle.std.specs.FinMap.{remove};
 ghost use Rattle.ink_base.specs.Panics.{drop_text};
 ghost use Rattle.ink_code.specs.Drops.{drop_maybe_step, drop_step, dropped};
@@ -7,10 +7,10 @@ ghost use Rattle.ink_code.specs.Machine.{after, given, panics};
 ghost use Rattle.ink_code.specs.Makes.{gives_up, take_apart_step};
 ghost use Rattle.ink_code.specs.Objects.{after_borrow, object_at};
 ghost use Rattle.ink_steps.specs.NextDrop.{first_drop};
-ghost use Rattle.ink_steps.specs.Answers.{Answers, Goes};
+ghost use Rattle.ink_steps.specs.Answers.{Goes, IsStep, MayStep};
 ghost use Rattle.ink_proc.specs.State.{state_of};
 
-use crate::reads::{copied, go_on, owned_by};
+use crate::reads::{go_on, owned_object, register_copy};
 use crate::stepped::{Request, StepFault, Stepped};
 use ink_base::{ObjectId, Value};
 use ink_code::{Code, Wrong};
@@ -22,8 +22,8 @@ use std::alloc::Global;
 /// The value of a register waits to be dropped.
 #[tactic(auto, unfolding(ink_code::specs::Drops::drop_step, ink_code::specs::Machine::after))]
 pub fn drop_step(proc: &mut Proc, from: u32) -> Result<Stepped, StepFault>
-    requires { proc.old.ran < 2 ^ 62 }
-    ensures { Answers (drop_step from (state_of proc.old)) result (state_of proc.old) (state_of proc.new) }
+    requires { MayStep proc.old }
+    ensures { IsStep (drop_step from) result proc.old proc.new }
 {
     match proc.pending.push_from(&mut proc.frames, from) {
         Err(WaitFault::Wrong(why)) => Err(StepFault::Wrong(why)),
@@ -38,8 +38,8 @@ pub fn drop_step(proc: &mut Proc, from: u32) -> Result<Stepped, StepFault>
 /// The value of a register waits to be dropped, where there is one.
 #[tactic(auto, unfolding(ink_code::specs::Drops::drop_maybe_step, ink_code::specs::Drops::drop_step, ink_code::specs::Machine::given, ink_code::specs::Machine::after))]
 pub fn drop_maybe_step(proc: &mut Proc, next: u32, from: u32) -> Result<Stepped, StepFault>
-    requires { proc.old.ran < 2 ^ 62 }
-    ensures { Answers (drop_maybe_step next from (state_of proc.old)) result (state_of proc.old) (state_of proc.new) }
+    requires { MayStep proc.old }
+    ensures { IsStep (drop_maybe_step next from) result proc.old proc.new }
 {
     match proc.frames.register(from) {
         None => return Err(StepFault::Wrong(Wrong::Absent)),
@@ -55,7 +55,7 @@ pub fn drop_maybe_step(proc: &mut Proc, next: u32, from: u32) -> Result<Stepped,
 /// A drop is done: where no other waits, the innermost frame goes on.
 #[tactic(auto, unfolding(ink_code::specs::Machine::given, ink_code::specs::Machine::settles))]
 fn settle(proc: &mut Proc, code: &Code) -> Result<(), Wrong>
-    requires { proc.old.ran < 2 ^ 62 }
+    requires { MayStep proc.old }
     ensures { Goes (dropped code.now proc.old.heap.objects proc.old.pending (state_of proc.old)) result (state_of proc.new) }
 {
     let (method, place) = match proc.frames.top() {
@@ -82,7 +82,7 @@ fn panic_borrowed(
     kind: u32,
     count: u64,
 ) -> Result<Stepped, StepFault>
-    ensures { Answers (given Wrong.Place (slice_get code.now.kinds kind) (λ name. panics (drop_text name count) (state_of proc.now))) result (state_of proc.now) (state_of proc.now) }
+    ensures { IsStep (λ p. given Wrong.Absent (slice_get code.now.kinds kind) (λ name. panics (drop_text name count) p)) result proc.now proc.now }
 {
     match code.kinds.get(u64::from(kind)) {
         None => Err(StepFault::Wrong(Wrong::Absent)),
@@ -101,9 +101,9 @@ fn drop_owner(
     code: &Code,
     id: ObjectId,
 ) -> Result<Stepped, StepFault>
-    requires { proc.old.ran < 2 ^ 62 }
-    ensures { Answers (after (object_at proc.old.heap.objects id) (λ found. gives_up code.now found (state_of proc.old)
-        (dropped code.now (remove proc.old.heap.objects id) (found.fields ++ drop 1 proc.old.pending) (state_of proc.old)))) result (state_of proc.old) (state_of proc.new) }
+    requires { MayStep proc.old }
+    ensures { IsStep (λ p. after (object_at p.objects id) (λ found. gives_up code.now found p
+        (dropped code.now (remove p.objects id) (found.fields ++ drop 1 p.pending) p))) result proc.old proc.new }
 {
     let kind = match proc.heap.kind_of(&id) {
         None => return Err(StepFault::Wrong(Wrong::Object)),
@@ -123,8 +123,8 @@ fn drop_owner(
 /// The next drop is that of a borrow, which ends.
 #[tactic(auto, unfolding(ink_code::specs::Machine::after, ink_code::specs::Objects::after_borrow, ink_base::specs::Objects::changed_object))]
 fn drop_borrow(proc: &mut Proc, code: &Code, id: ObjectId) -> Result<Stepped, StepFault>
-    requires { proc.old.ran < 2 ^ 62 }
-    ensures { Answers (after (after_borrow id proc.old.heap.objects) (λ objects. dropped code.now objects (drop 1 proc.old.pending) (state_of proc.old))) result (state_of proc.old) (state_of proc.new) }
+    requires { MayStep proc.old }
+    ensures { IsStep (λ p. after (after_borrow id p.objects) (λ objects. dropped code.now objects (drop 1 p.pending) p)) result proc.old proc.new }
 {
     if !proc.heap.count_down(&id) {
         return Err(StepFault::Wrong(Wrong::Object));
@@ -139,8 +139,8 @@ fn drop_borrow(proc: &mut Proc, code: &Code, id: ObjectId) -> Result<Stepped, St
 /// The next drop is made.
 #[tactic(auto, unfolding(ink_code::specs::Drops::drop_next))]
 pub fn drop_next(alloc: Global, proc: &mut Proc, code: &Code) -> Result<Stepped, StepFault>
-    requires { proc.old.ran < 2 ^ 62 }
-    ensures { Answers (first_drop code.now proc.old.pending (state_of proc.old)) result (state_of proc.old) (state_of proc.new) }
+    requires { MayStep proc.old }
+    ensures { IsStep (λ p. first_drop code.now p.pending p) result proc.old proc.new }
 {
     match proc.pending.first() {
         None => Err(StepFault::Wrong(Wrong::Absent)),
@@ -175,11 +175,11 @@ pub fn take_apart_step(
     to: &[u32],
     object: u32,
 ) -> Result<Stepped, StepFault>
-    requires { proc.old.ran < 2 ^ 62 }
-    ensures { Answers (take_apart_step code.now next to.now object (state_of proc.old)) result (state_of proc.old) (state_of proc.new) }
+    requires { MayStep proc.old }
+    ensures { IsStep (take_apart_step code.now next to.now object) result proc.old proc.new }
 {
-    let owner = copied(alloc, &proc.frames, object)?;
-    let id = owned_by(&owner)?;
+    let owner = register_copy(alloc, &proc.frames, object)?;
+    let id = owned_object(&owner)?;
     let kind = match proc.heap.kind_of(&id) {
         None => return Err(StepFault::Wrong(Wrong::Object)),
         Some((kind, _tag)) => kind,

@@ -11,8 +11,6 @@ mod moves;
 mod objects;
 mod reads;
 mod stepped;
-#[cfg(test)]
-mod tests;
 mod wants;
 
 pub use calls::{invoke_bound_step, invoke_step, return_step};

@@ -1,45 +1,24 @@
 //! The instructions that make objects.
-ghost use Rattle.std.specs.Prelude.{◌≡◌, ◌<◌, ◌^◌, IfOk, Option};
-ghost use Rattle.ink_code.specs.Machine.{Outcome, after, unless_text};
-ghost use Rattle.ink_code.specs.Makes.{make_array_step, make_step, makes, unless_full};
+ghost use Rattle.std.specs.Prelude.{◌<◌};
+ghost use Rattle.ink_code.specs.Full.{most_made};
+ghost use Rattle.ink_code.specs.Machine.{after};
+ghost use Rattle.ink_code.specs.Makes.{make_array_step, make_step, makes};
 ghost use Rattle.ink_code.specs.Process.{taken_out};
-ghost use Rattle.ink_steps.specs.Answers.{Answers};
-ghost use Rattle.ink_proc.specs.State.{state_of};
+ghost use Rattle.ink_steps.specs.Answers.{IsStep, MayStep};
 
 use crate::reads::go_on;
 use crate::stepped::{StepFault, Stepped};
-use ink_base::{Limit, Limits, Object, ObjectId, Text, Value};
-use ink_code::Wrong;
+use ink_base::{Limit, Limits, Object, ObjectId, Value};
+use ink_code::{ARRAY_KIND, Wrong};
 use ink_proc::{Proc, put_over};
-use ink_rows::texts::{limit_text, passed_text, reached_text};
-use std::alloc::{AllocError, Global};
-
-/// The number of the type of arrays, in each code.
-const ARRAY_KIND: u32 = 7;
+use ink_rows::texts::{full_text, passed_text};
+use std::alloc::Global;
 
 /// What a new object is, but for its fields: its type and its tag.
 #[derive(Clone, Copy, Debug)]
 struct Made {
     kind: u32,
     tag: u32,
-}
-
-/// With which text a process panics that makes one more object, where it can't: first for those that live, then for
-/// those that it ever made.
-#[tactic(auto, unfolding(ink_code::specs::Machine::unless_text))]
-fn full_text(alloc: Global, proc: &Proc, limits: &Limits) -> Result<Option<Text>, AllocError>
-    ensures full { IfOk result (λ text. (further : Outcome) → unless_full limits.now (state_of proc.now) further ≡ unless_text text (state_of proc.now) further) }
-    ensures room { IfOk result (λ text. text ≡ Option.None → proc.now.made < 2 ^ 62) }
-{
-    let live = reached_text(alloc, limits, Limit::Objects, proc.heap.len())?;
-    if live.is_some() {
-        return Ok(live);
-    }
-    if limits.get(Limit::Serial) <= proc.made {
-        limit_text(alloc, Limit::Serial)
-    } else {
-        Ok(None)
-    }
 }
 
 /// A register gets the owner of a new object, to whose fields the values of registers are moved.
@@ -54,13 +33,13 @@ pub fn make_step(
     tag: u32,
     fields: &[u32],
 ) -> Result<Stepped, StepFault>
-    requires { proc.old.ran < 2 ^ 62 }
-    ensures { Answers (make_step limits.now next to kind tag fields.now (state_of proc.old)) result (state_of proc.old) (state_of proc.new) }
+    requires { MayStep proc.old }
+    ensures { IsStep (make_step limits.now next to kind tag fields.now) result proc.old proc.new }
 {
     if !proc.frames.has(to) {
         return Err(StepFault::Wrong(Wrong::Absent));
     }
-    if let Some(text) = full_text(alloc, proc, limits)? {
+    if let Some(text) = full_text(alloc, limits, proc.heap.len(), proc.made)? {
         return Ok(Stepped::Panics(text));
     }
     put_made(alloc, proc, next, to, Made { kind, tag }, fields)
@@ -76,13 +55,13 @@ pub fn make_array_step(
     to: u32,
     items: &[u32],
 ) -> Result<Stepped, StepFault>
-    requires { proc.old.ran < 2 ^ 62 }
-    ensures { Answers (make_array_step limits.now next to items.now (state_of proc.old)) result (state_of proc.old) (state_of proc.new) }
+    requires { MayStep proc.old }
+    ensures { IsStep (make_array_step limits.now next to items.now) result proc.old proc.new }
 {
     if !proc.frames.has(to) {
         return Err(StepFault::Wrong(Wrong::Absent));
     }
-    if let Some(text) = full_text(alloc, proc, limits)? {
+    if let Some(text) = full_text(alloc, limits, proc.heap.len(), proc.made)? {
         return Ok(Stepped::Panics(text));
     }
     if let Some(text) = passed_text(alloc, limits, Limit::Array, items.len() as u64)? {
@@ -107,9 +86,9 @@ fn put_made(
     made: Made,
     fields: &[u32],
 ) -> Result<Stepped, StepFault>
-    requires ran { proc.old.ran < 2 ^ 62 }
-    requires made { proc.old.made < 2 ^ 62 }
-    ensures { Answers (after (taken_out fields.now proc.old.frames) (λ parts. makes next to made.kind made.tag (state_of proc.old) parts)) result (state_of proc.old) (state_of proc.new) }
+    requires ran { MayStep proc.old }
+    requires made { proc.old.made < most_made }
+    ensures { IsStep (λ p. after (taken_out fields.now p.frames) (λ parts. makes next to made.kind made.tag p parts)) result proc.old proc.new }
 {
     let room = Vec::with_capacity(alloc, fields.len())?;
     proc.heap.reserve(1)?;

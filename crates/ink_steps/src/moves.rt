@@ -1,14 +1,12 @@
 //! The instructions that move values between registers, and those that jump.
-ghost use Rattle.std.specs.Prelude.{◌≡◌, ◌<◌, ◌^◌};
 ghost use Rattle.ink_code.specs.Moves.{borrow_step, const_step, copies, copy_step, exchange_step, jump_if_step, jump_step, move_step, my_proc_step, panic_step};
-ghost use Rattle.ink_steps.specs.Answers.{Answers};
-ghost use Rattle.ink_proc.specs.State.{state_of};
+ghost use Rattle.ink_steps.specs.Answers.{IsStep, MayStep};
 
-use crate::reads::{copied, count_copy, go_on, lent, plain, text_of, truth_of};
+use crate::reads::{constant_copy, count_copy, go_on, register_copy, text_of, truth_of};
 use crate::stepped::{StepFault, Stepped};
 use ink_base::Value;
 use ink_code::{Code, Wrong};
-use ink_proc::Proc;
+use ink_proc::{Proc, borrow_of};
 use std::alloc::Global;
 
 /// A register gets a constant.
@@ -21,15 +19,15 @@ pub fn const_step(
     to: u32,
     constant: u32,
 ) -> Result<Stepped, StepFault>
-    requires { proc.old.ran < 2 ^ 62 }
-    ensures { Answers (const_step code.now next to constant (state_of proc.old)) result (state_of proc.old) (state_of proc.new) }
+    requires { MayStep proc.old }
+    ensures { IsStep (const_step code.now next to constant) result proc.old proc.new }
 {
     if !proc.frames.has(to) {
         return Err(StepFault::Wrong(Wrong::Absent));
     }
     let value = match code.constants.get(u64::from(constant)) {
         None => return Err(StepFault::Wrong(Wrong::Absent)),
-        Some(value) => plain(alloc, value)?,
+        Some(value) => constant_copy(alloc, value)?,
     };
     proc.frames.set(to, value);
     go_on(proc, next);
@@ -39,8 +37,8 @@ pub fn const_step(
 /// A register gets the value of another, which is empty then.
 #[tactic(auto, unfolding(ink_code::specs::Moves::move_step, ink_code::specs::Machine::given, ink_code::specs::Machine::after))]
 pub fn move_step(proc: &mut Proc, next: u32, to: u32, from: u32) -> Result<Stepped, StepFault>
-    requires { proc.old.ran < 2 ^ 62 }
-    ensures { Answers (move_step next to from (state_of proc.old)) result (state_of proc.old) (state_of proc.new) }
+    requires { MayStep proc.old }
+    ensures { IsStep (move_step next to from) result proc.old proc.new }
 {
     if !proc.frames.has(to) {
         return Err(StepFault::Wrong(Wrong::Absent));
@@ -63,8 +61,8 @@ pub(crate) fn put_copy(
     to: u32,
     value: Value,
 ) -> Result<Stepped, StepFault>
-    requires { proc.old.ran < 2 ^ 62 }
-    ensures { Answers (copies next to value (state_of proc.old)) result (state_of proc.old) (state_of proc.new) }
+    requires { MayStep proc.old }
+    ensures { IsStep (copies next to value) result proc.old proc.new }
 {
     match count_copy(&mut proc.heap, &value) {
         Err(fault) => Err(fault),
@@ -85,13 +83,13 @@ pub fn copy_step(
     to: u32,
     from: u32,
 ) -> Result<Stepped, StepFault>
-    requires { proc.old.ran < 2 ^ 62 }
-    ensures { Answers (copy_step next to from (state_of proc.old)) result (state_of proc.old) (state_of proc.new) }
+    requires { MayStep proc.old }
+    ensures { IsStep (copy_step next to from) result proc.old proc.new }
 {
     if !proc.frames.has(to) {
         return Err(StepFault::Wrong(Wrong::Absent));
     }
-    let value = copied(alloc, &proc.frames, from)?;
+    let value = register_copy(alloc, &proc.frames, from)?;
     put_copy(proc, next, to, value)
 }
 
@@ -104,21 +102,21 @@ pub fn borrow_step(
     to: u32,
     from: u32,
 ) -> Result<Stepped, StepFault>
-    requires { proc.old.ran < 2 ^ 62 }
-    ensures { Answers (borrow_step next to from (state_of proc.old)) result (state_of proc.old) (state_of proc.new) }
+    requires { MayStep proc.old }
+    ensures { IsStep (borrow_step next to from) result proc.old proc.new }
 {
     if !proc.frames.has(to) {
         return Err(StepFault::Wrong(Wrong::Absent));
     }
-    let value = copied(alloc, &proc.frames, from)?;
-    put_copy(proc, next, to, lent(value))
+    let value = register_copy(alloc, &proc.frames, from)?;
+    put_copy(proc, next, to, borrow_of(value))
 }
 
 /// Two registers change contents.
 #[tactic(auto, unfolding(ink_code::specs::Moves::exchange_step, ink_code::specs::Machine::given))]
 pub fn exchange_step(proc: &mut Proc, next: u32, one: u32, other: u32) -> Result<Stepped, StepFault>
-    requires { proc.old.ran < 2 ^ 62 }
-    ensures { Answers (exchange_step next one other (state_of proc.old)) result (state_of proc.old) (state_of proc.new) }
+    requires { MayStep proc.old }
+    ensures { IsStep (exchange_step next one other) result proc.old proc.new }
 {
     if !proc.frames.swap(one, other) {
         return Err(StepFault::Wrong(Wrong::Absent));
@@ -130,8 +128,8 @@ pub fn exchange_step(proc: &mut Proc, next: u32, one: u32, other: u32) -> Result
 /// A register gets the reference to this process.
 #[tactic(auto, unfolding(ink_code::specs::Moves::my_proc_step, ink_code::specs::Machine::given))]
 pub fn my_proc_step(proc: &mut Proc, next: u32, to: u32) -> Result<Stepped, StepFault>
-    requires { proc.old.ran < 2 ^ 62 }
-    ensures { Answers (my_proc_step next to (state_of proc.old)) result (state_of proc.old) (state_of proc.new) }
+    requires { MayStep proc.old }
+    ensures { IsStep (my_proc_step next to) result proc.old proc.new }
 {
     if !proc.frames.has(to) {
         return Err(StepFault::Wrong(Wrong::Absent));
@@ -145,8 +143,8 @@ pub fn my_proc_step(proc: &mut Proc, next: u32, to: u32) -> Result<Stepped, Step
 /// The frame goes on elsewhere.
 #[tactic(auto, unfolding(ink_code::specs::Moves::jump_step))]
 pub fn jump_step(proc: &mut Proc, place: u32) -> Result<Stepped, StepFault>
-    requires { proc.old.ran < 2 ^ 62 }
-    ensures { Answers (jump_step place (state_of proc.old)) result (state_of proc.old) (state_of proc.new) }
+    requires { MayStep proc.old }
+    ensures { IsStep (jump_step place) result proc.old proc.new }
 {
     go_on(proc, place);
     Ok(Stepped::Went)
@@ -161,10 +159,10 @@ pub fn jump_if_step(
     on: u32,
     place: u32,
 ) -> Result<Stepped, StepFault>
-    requires { proc.old.ran < 2 ^ 62 }
-    ensures { Answers (jump_if_step next on place (state_of proc.old)) result (state_of proc.old) (state_of proc.new) }
+    requires { MayStep proc.old }
+    ensures { IsStep (jump_if_step next on place) result proc.old proc.new }
 {
-    let value = copied(alloc, &proc.frames, on)?;
+    let value = register_copy(alloc, &proc.frames, on)?;
     let truth = truth_of(&value)?;
     go_on(proc, if truth { place } else { next });
     Ok(Stepped::Went)
@@ -173,9 +171,9 @@ pub fn jump_if_step(
 /// The process ends the run with a text.
 #[tactic(auto, unfolding(ink_code::specs::Moves::panic_step, ink_code::specs::Machine::after))]
 pub fn panic_step(alloc: Global, proc: &Proc, text: u32) -> Result<Stepped, StepFault>
-    ensures { Answers (panic_step text (state_of proc.now)) result (state_of proc.now) (state_of proc.now) }
+    ensures { IsStep (panic_step text) result proc.now proc.now }
 {
-    let value = copied(alloc, &proc.frames, text)?;
+    let value = register_copy(alloc, &proc.frames, text)?;
     let told = text_of(value)?;
     Ok(Stepped::Panics(told))
 }

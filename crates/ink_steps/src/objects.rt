@@ -1,18 +1,18 @@
 //! The instructions that read and write the fields of objects.
-ghost use Rattle.std.specs.Prelude.{◌<◌, ◌^◌};
+ghost use Rattle.std.specs.Prelude.{◌≡◌, Err, IsOk, MatchResult, OnOk};
+ghost use Rattle.ink_base.specs.Objects.{changed_object, with_field};
 ghost use Rattle.ink_code.specs.Makes.{load_borrow_step, load_step, store_step, tag_step};
 ghost use Rattle.ink_code.specs.Objects.{field_at};
-ghost use Rattle.ink_steps.specs.Answers.{Answers, Finds};
-ghost use Rattle.ink_proc.specs.State.{state_of};
+ghost use Rattle.ink_steps.specs.Answers.{Finds, IsStep, MayStep};
 
 use crate::moves::put_copy;
-use crate::reads::{copied, go_on, held, lent, object_of, panic_with};
+use crate::reads::{go_on, object_of, panic_with, register_copy, register_value};
 use crate::stepped::{StepFault, Stepped};
 use ink_base::{ObjectId, Value};
 use ink_code::Wrong;
 use ink_heap::Heap;
 use ink_parcel::is_under;
-use ink_proc::Proc;
+use ink_proc::{Proc, borrow_of};
 use std::alloc::Global;
 
 /// A copy of the value in a field.
@@ -32,6 +32,35 @@ fn field_of(alloc: Global, heap: &Heap, id: &ObjectId, field: u32) -> Result<Val
     }
 }
 
+/// In which way there is no such field.
+#[tactic(auto, unfolding(ink_code::specs::Objects::field_at))]
+fn find_field(heap: &Heap, id: &ObjectId, field: u32) -> Result<(), Wrong>
+    ensures { MatchResult result (λ _. IsOk (field_at heap.now.objects id.now field)) (λ why. field_at heap.now.objects id.now field ≡ Err why) }
+{
+    if heap.size(id).is_none() {
+        return Err(Wrong::Object);
+    }
+    match heap.read(id, u64::from(field)) {
+        None => Err(Wrong::Absent),
+        Some(_) => Ok(()),
+    }
+}
+
+/// Puts a value in a field, and gives the one that stood there.
+#[tactic(auto, unfolding(ink_code::specs::Objects::field_at))]
+fn write_field(heap: &mut Heap, id: &ObjectId, field: u32, value: Value) -> Result<Value, Wrong>
+    ensures had { result ≡ field_at heap.old.objects id.now field }
+    ensures after { OnOk result (heap.new.objects ≡ changed_object heap.old.objects id.now (with_field field value)) }
+{
+    if heap.size(id).is_none() {
+        return Err(Wrong::Object);
+    }
+    match heap.write(id, u64::from(field), value) {
+        Err(_) => Err(Wrong::Absent),
+        Ok(had) => Ok(had),
+    }
+}
+
 /// A register gets a copy of what a field holds.
 #[tactic(auto, unfolding(ink_code::specs::Makes::load_step, ink_code::specs::Machine::given, ink_code::specs::Machine::after))]
 pub fn load_step(
@@ -42,13 +71,13 @@ pub fn load_step(
     object: u32,
     field: u32,
 ) -> Result<Stepped, StepFault>
-    requires { proc.old.ran < 2 ^ 62 }
-    ensures { Answers (load_step next to object field (state_of proc.old)) result (state_of proc.old) (state_of proc.new) }
+    requires { MayStep proc.old }
+    ensures { IsStep (load_step next to object field) result proc.old proc.new }
 {
     if !proc.frames.has(to) {
         return Err(StepFault::Wrong(Wrong::Absent));
     }
-    let named = copied(alloc, &proc.frames, object)?;
+    let named = register_copy(alloc, &proc.frames, object)?;
     let id = object_of(&named)?;
     let value = field_of(alloc, &proc.heap, &id, field)?;
     put_copy(proc, next, to, value)
@@ -64,16 +93,16 @@ pub fn load_borrow_step(
     object: u32,
     field: u32,
 ) -> Result<Stepped, StepFault>
-    requires { proc.old.ran < 2 ^ 62 }
-    ensures { Answers (load_borrow_step next to object field (state_of proc.old)) result (state_of proc.old) (state_of proc.new) }
+    requires { MayStep proc.old }
+    ensures { IsStep (load_borrow_step next to object field) result proc.old proc.new }
 {
     if !proc.frames.has(to) {
         return Err(StepFault::Wrong(Wrong::Absent));
     }
-    let named = copied(alloc, &proc.frames, object)?;
+    let named = register_copy(alloc, &proc.frames, object)?;
     let id = object_of(&named)?;
     let value = field_of(alloc, &proc.heap, &id, field)?;
-    put_copy(proc, next, to, lent(value))
+    put_copy(proc, next, to, borrow_of(value))
 }
 
 /// A register gets the tag of an object.
@@ -85,13 +114,13 @@ pub fn tag_step(
     to: u32,
     object: u32,
 ) -> Result<Stepped, StepFault>
-    requires { proc.old.ran < 2 ^ 62 }
-    ensures { Answers (tag_step next to object (state_of proc.old)) result (state_of proc.old) (state_of proc.new) }
+    requires { MayStep proc.old }
+    ensures { IsStep (tag_step next to object) result proc.old proc.new }
 {
     if !proc.frames.has(to) {
         return Err(StepFault::Wrong(Wrong::Absent));
     }
-    let named = copied(alloc, &proc.frames, object)?;
+    let named = register_copy(alloc, &proc.frames, object)?;
     let id = object_of(&named)?;
     match proc.heap.kind_of(&id) {
         None => Err(StepFault::Wrong(Wrong::Object)),
@@ -104,7 +133,7 @@ pub fn tag_step(
 }
 
 /// A field gets a value, and a register gets the old one. It is a panic where the object is in the tree of the value.
-#[tactic(auto, unfolding(ink_code::specs::Makes::store_step, ink_code::specs::Objects::field_at, ink_code::specs::Machine::given, ink_code::specs::Machine::after, ink_code::specs::Machine::unless))]
+#[tactic(auto, unfolding(ink_code::specs::Makes::store_step, ink_code::specs::Machine::given, ink_code::specs::Machine::after, ink_code::specs::Machine::unless))]
 pub fn store_step(
     alloc: Global,
     proc: &mut Proc,
@@ -114,31 +143,22 @@ pub fn store_step(
     field: u32,
     from: u32,
 ) -> Result<Stepped, StepFault>
-    requires { proc.old.ran < 2 ^ 62 }
-    ensures { Answers (store_step next to object field from (state_of proc.old)) result (state_of proc.old) (state_of proc.new) }
+    requires { MayStep proc.old }
+    ensures { IsStep (store_step next to object field from) result proc.old proc.new }
 {
     if !proc.frames.has(to) {
         return Err(StepFault::Wrong(Wrong::Absent));
     }
-    let named = copied(alloc, &proc.frames, object)?;
+    let named = register_copy(alloc, &proc.frames, object)?;
     let id = object_of(&named)?;
-    let value = held(&proc.frames, from)?;
-    if proc.heap.size(&id).is_none() {
-        return Err(StepFault::Wrong(Wrong::Object));
-    }
-    if proc.heap.read(&id, u64::from(field)).is_none() {
-        return Err(StepFault::Wrong(Wrong::Absent));
-    }
+    let value = register_value(&proc.frames, from)?;
+    find_field(&proc.heap, &id, field)?;
     if is_under(alloc, &proc.heap, &id, value)? {
         return panic_with(alloc, b"ownership cycle");
     }
     let value = proc.frames.take(from)?;
-    match proc.heap.write(&id, u64::from(field), value) {
-        Err(_) => unreachable!(),
-        Ok(old) => {
-            proc.frames.set(to, old);
-            go_on(proc, next);
-            Ok(Stepped::Went)
-        }
-    }
+    let had = write_field(&mut proc.heap, &id, field, value)?;
+    proc.frames.set(to, had);
+    go_on(proc, next);
+    Ok(Stepped::Went)
 }

@@ -1,21 +1,21 @@
 //! What the instructions read, and what ends each of them.
-ghost use Rattle.std.specs.Prelude.{◌≡◌, ◌+◌, ◌<◌, ◌^◌, Err, MatchResult, Ok};
+ghost use Rattle.std.specs.Prelude.{◌≡◌, ◌+◌, Err, MatchResult, Ok};
 ghost use Rattle.ink_code.specs.Moves.{constant_of, text_of, truth_of};
-ghost use Rattle.ink_code.specs.Objects.{after_copy, lent, object_of, owned_by};
+ghost use Rattle.ink_code.specs.Objects.{after_copy, object_of, owned_by};
 ghost use Rattle.ink_code.specs.Process.{at_place, held, register};
-ghost use Rattle.ink_steps.specs.Answers.{Changes, Finds, PanicsWith};
+ghost use Rattle.ink_steps.specs.Answers.{Changes, Finds, MayStep, PanicsWith};
 ghost use Rattle.ink_proc.specs.State.{state_of};
 
 use crate::stepped::{StepFault, Stepped};
 use ink_base::{ObjectId, Text, Value};
 use ink_code::Wrong;
 use ink_heap::Heap;
-use ink_proc::{Frames, Proc};
+use ink_proc::{Frames, Proc, has_room};
 use std::alloc::Global;
 
 /// The step is made, and the innermost frame goes on at a place.
 pub(crate) fn go_on(proc: &mut Proc, place: u32)
-    requires { proc.old.ran < 2 ^ 62 }
+    requires { MayStep proc.old }
     ensures { state_of proc.new ≡ record (state_of proc.old) { frames = at_place place proc.old.frames; ran = proc.old.ran + 1 } }
 {
     proc.frames.go_on(place);
@@ -23,7 +23,7 @@ pub(crate) fn go_on(proc: &mut Proc, place: u32)
 }
 
 /// The value in a register, where it is there.
-pub(crate) fn held(frames: &Frames, number: u32) -> Result<&Value, Wrong>
+pub(crate) fn register_value(frames: &Frames, number: u32) -> Result<&Value, Wrong>
     ensures { MatchResult result (λ value. held (register frames.now number) ≡ Ok value.now) (λ why. held (register frames.now number) ≡ Err why) }
 {
     match frames.register(number) {
@@ -34,7 +34,7 @@ pub(crate) fn held(frames: &Frames, number: u32) -> Result<&Value, Wrong>
 }
 
 /// A copy of the value in a register, where it is there.
-pub(crate) fn copied(alloc: Global, frames: &Frames, number: u32) -> Result<Value, StepFault>
+pub(crate) fn register_copy(alloc: Global, frames: &Frames, number: u32) -> Result<Value, StepFault>
     ensures { Finds (held (register frames.now number)) result }
 {
     match frames.register(number) {
@@ -48,7 +48,7 @@ pub(crate) fn copied(alloc: Global, frames: &Frames, number: u32) -> Result<Valu
 }
 
 /// A copy of a value that can be a constant.
-pub(crate) fn plain(alloc: Global, value: &Value) -> Result<Value, StepFault>
+pub(crate) fn constant_copy(alloc: Global, value: &Value) -> Result<Value, StepFault>
     ensures { Finds (constant_of value.now) result }
 {
     match value {
@@ -57,16 +57,6 @@ pub(crate) fn plain(alloc: Global, value: &Value) -> Result<Value, StepFault>
             Ok(value) => Ok(value),
         },
         _ => Err(StepFault::Wrong(Wrong::Kind)),
-    }
-}
-
-/// What a borrow of a value is.
-pub(crate) fn lent(value: Value) -> Value
-    ensures { result ≡ lent value }
-{
-    match value {
-        Value::Own(id) => Value::Bor(id),
-        value => value,
     }
 }
 
@@ -81,7 +71,7 @@ pub(crate) fn object_of(value: &Value) -> Result<ObjectId, StepFault>
 }
 
 /// The object that a value owns.
-pub(crate) fn owned_by(value: &Value) -> Result<ObjectId, StepFault>
+pub(crate) fn owned_object(value: &Value) -> Result<ObjectId, StepFault>
     ensures { Finds (owned_by value.now) result }
 {
     match value {
@@ -113,27 +103,13 @@ pub(crate) fn text_of(value: Value) -> Result<Text, StepFault>
 /// Counts the copy that was made of a value, where it is a borrow.
 ///
 /// A count of 2^62 has no room for one more.
-#[tactic(auto, unfolding(ink_code::specs::Objects::after_copy, ink_base::specs::Objects::changed_object))]
 pub(crate) fn count_copy(heap: &mut Heap, value: &Value) -> Result<(), StepFault>
     ensures { Changes (after_copy value.now heap.old.objects) result heap.old.objects heap.new.objects }
 {
-    match value {
-        Value::Bor(id) => match heap.count(id) {
-            None => Err(StepFault::Wrong(Wrong::Object)),
-            Some(count) => {
-                if count >= 1 << 62 {
-                    return Err(StepFault::OutOfMemory);
-                }
-                heap.count_up(id);
-                Ok(())
-            }
-        },
-        Value::Own(_) | Value::Future(_) | Value::Promise(_) => {
-            Err(StepFault::Wrong(Wrong::Kind))
-        }
-        Value::Empty => Err(StepFault::Wrong(Wrong::Empty)),
-        _ => Ok(()),
+    if !has_room(heap, value) {
+        return Err(StepFault::OutOfMemory);
     }
+    Ok(ink_proc::count_copy(heap, value)?)
 }
 
 /// A panic with a text.

@@ -5,10 +5,10 @@ ghost use Rattle.ink_code.specs.Moves.{text_of};
 ghost use Rattle.ink_code.specs.Process.{taken_out};
 ghost use Rattle.ink_code.specs.Trees.{parted_of};
 ghost use Rattle.ink_code.specs.Wanted.{future_get_step, future_new_step, future_of, print_step, process_of, promise_of, promise_set_step, send_step, spawn_step};
-ghost use Rattle.ink_steps.specs.Answers.{Answers, Finds, IsCut};
+ghost use Rattle.ink_steps.specs.Answers.{Finds, IsCut, IsStep};
 ghost use Rattle.ink_proc.specs.State.{state_of};
 
-use crate::reads::{copied, text_of};
+use crate::reads::{register_copy, text_of};
 use crate::stepped::{Request, StepFault, Stepped};
 use ink_base::{Items, Value};
 use ink_code::Wrong;
@@ -49,9 +49,9 @@ fn promise_of(value: &Value) -> Result<u32, StepFault>
 /// A line of the output is wanted.
 #[tactic(auto, unfolding(ink_code::specs::Wanted::print_step, ink_code::specs::Machine::after))]
 pub fn print_step(alloc: Global, proc: &Proc, text: u32) -> Result<Stepped, StepFault>
-    ensures { Answers (print_step text (state_of proc.now)) result (state_of proc.now) (state_of proc.now) }
+    ensures { IsStep (print_step text) result proc.now proc.now }
 {
-    let value = copied(alloc, &proc.frames, text)?;
+    let value = register_copy(alloc, &proc.frames, text)?;
     let line = text_of(value)?;
     Ok(Stepped::Wants(Request::Print(line)))
 }
@@ -59,7 +59,7 @@ pub fn print_step(alloc: Global, proc: &Proc, text: u32) -> Result<Stepped, Step
 /// A new future is wanted.
 #[tactic(auto, unfolding(ink_code::specs::Wanted::future_new_step, ink_code::specs::Machine::given))]
 pub fn future_new_step(proc: &Proc, future: u32, promise: u32) -> Result<Stepped, StepFault>
-    ensures { Answers (future_new_step future promise (state_of proc.now)) result (state_of proc.now) (state_of proc.now) }
+    ensures { IsStep (future_new_step future promise) result proc.now proc.now }
 {
     if proc.frames.has(future) && proc.frames.has(promise) {
         Ok(Stepped::Wants(Request::NewFuture))
@@ -76,12 +76,12 @@ pub fn future_get_step(
     to: u32,
     future: u32,
 ) -> Result<Stepped, StepFault>
-    ensures { Answers (future_get_step to future (state_of proc.now)) result (state_of proc.now) (state_of proc.now) }
+    ensures { IsStep (future_get_step to future) result proc.now proc.now }
 {
     if !proc.frames.has(to) {
         return Err(StepFault::Wrong(Wrong::Absent));
     }
-    let value = copied(alloc, &proc.frames, future)?;
+    let value = register_copy(alloc, &proc.frames, future)?;
     let future = future_of(&value)?;
     Ok(Stepped::Wants(Request::GetFuture { future }))
 }
@@ -119,7 +119,7 @@ pub fn spawn_step(
     kind: u32,
     fields: &[u32],
 ) -> Result<Stepped, StepFault>
-    ensures { Answers (spawn_step to kind fields.now (state_of proc.old)) result (state_of proc.old) (state_of proc.new) }
+    ensures { IsStep (spawn_step to kind fields.now) result proc.old proc.new }
 {
     if !proc.frames.has(to) {
         return Err(StepFault::Wrong(Wrong::Absent));
@@ -139,9 +139,9 @@ pub fn send_step(
     method: u32,
     arguments: &[u32],
 ) -> Result<Stepped, StepFault>
-    ensures { Answers (send_step process method arguments.now (state_of proc.old)) result (state_of proc.old) (state_of proc.new) }
+    ensures { IsStep (send_step process method arguments.now) result proc.old proc.new }
 {
-    let receiver = copied(alloc, &proc.frames, process)?;
+    let receiver = register_copy(alloc, &proc.frames, process)?;
     let to = process_of(&receiver)?;
     let room = Vec::with_capacity(alloc, arguments.len())?;
     let values = proc.frames.take_out(room, arguments)?;
@@ -157,9 +157,9 @@ pub fn promise_set_step(
     promise: u32,
     from: u32,
 ) -> Result<Stepped, StepFault>
-    ensures { Answers (promise_set_step promise from (state_of proc.old)) result (state_of proc.old) (state_of proc.new) }
+    ensures { IsStep (promise_set_step promise from) result proc.old proc.new }
 {
-    let found = copied(alloc, &proc.frames, promise)?;
+    let found = register_copy(alloc, &proc.frames, promise)?;
     let future = promise_of(&found)?;
     let room = Vec::with_capacity(alloc, 1)?;
     proc.frames.take(promise)?;

@@ -1,5 +1,5 @@
-use Rattle.ink_action_cases.proofs.ParcelLemmas.{apart_from_all}
-use Rattle.ink_action_cases.proofs.parcels.parcel_of_int.Goals as goal
+use Rattle.ink_machine_cases.proofs.ParcelLemmas.{apart_from_all}
+use Rattle.ink_machine_cases.proofs.answers.parcel_of.Goals as goal
 
 pub returns-in-Ok : goal.returns-in-Ok
 returns-in-Ok c =
