@@ -20,8 +20,6 @@ mod shape;
 mod stack;
 mod statements;
 mod symbol;
-#[cfg(test)]
-mod tests;
 mod token;
 mod tree;
 mod types;

@@ -16,8 +16,6 @@ mod print;
 mod printer;
 mod step;
 mod surround;
-#[cfg(test)]
-mod tests;
 mod work;
 
 pub use print::print_module;

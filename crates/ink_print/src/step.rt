@@ -4,7 +4,7 @@ use crate::context::Context;
 use ink_grammar::Terminal;
 
 /// A mark or a word that the tree doesn't keep, or the end of a line.
-#[derive(Clone, Copy)]
+#[derive(Clone, Copy, Debug)]
 pub enum Sign {
     /// The end of a line.
     Line,

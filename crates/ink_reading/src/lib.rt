@@ -6,7 +6,5 @@
 
 mod phases;
 mod reading;
-#[cfg(test)]
-mod tests;
 
 pub use reading::{Reading, read_module};

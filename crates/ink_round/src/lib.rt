@@ -6,8 +6,6 @@
 
 mod again;
 mod print;
-#[cfg(test)]
-mod tests;
 
 pub use again::print_reads_back;
 pub use print::print_source;

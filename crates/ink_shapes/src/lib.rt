@@ -7,7 +7,5 @@
 mod keyword;
 mod mark;
 mod shaped;
-#[cfg(test)]
-mod tests;
 
 pub use shaped::{shape_of, shapes};

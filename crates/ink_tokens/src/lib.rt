@@ -16,10 +16,6 @@ mod number;
 mod part;
 mod reading;
 mod scanner;
-#[cfg(test)]
-mod tests;
-#[cfg(test)]
-mod text_tests;
 mod words;
 
 pub use lexing::tokens;
