@@ -12,8 +12,8 @@ use Rattle.ink_first.specs.Reading.{Finds}
 use Rattle.std.specs.declared.alloc.Global.{Global}
 use Rattle.ink_top.specs.Verdict.{no_main, Verdict, Accepted, Refused, Unbuilt, IsVerdict, IsOnlyVerdict, Judges}
 use Rattle.ink_top.specs.World.{Program}
-use Rattle.ink_top.specs.declared.verdict.Form.{Form}
-use Rattle.ink_top.specs.declared.verdict.Form.TheVariants as form
+use Rattle.ink_top.specs.declared.verdict.ModuleKind.{ModuleKind}
+use Rattle.ink_top.specs.declared.verdict.ModuleKind.TheVariants as kind
 
 no_form : (bytes : List ℕ) (program : Program) → IsFirstForm bytes [] program → ⊥
 no_form bytes program form = let e = form.1 in cc
@@ -148,6 +148,6 @@ form_missed {E} limits bytes tokens listed tree result finds is same some reads 
     subst (λ (t : List Token). Finds {E = E} (IsFirstForm bytes t) (Ok None)) same (subst (Finds (IsFirstForm bytes listed)) is finds) in
     is_unbuilt limits bytes tokens tree reads some here
 
-pub is_first : (limits bytes : List ℕ) (found : Form) (texts : Vec (List ℕ) Global) → Judges limits bytes (Ok found) → found ≡ form.First texts
+pub is_first : (limits bytes : List ℕ) (found : ModuleKind) (texts : Vec (List ℕ) Global) → Judges limits bytes (Ok found) → found ≡ kind.First texts
     → IsOnlyVerdict limits bytes (Accepted texts.items)
-is_first limits bytes found texts judges is = subst (λ (f : Form). Judges limits bytes (Ok f)) is judges
+is_first limits bytes found texts judges is = subst (λ (f : ModuleKind). Judges limits bytes (Ok f)) is judges

@@ -9,8 +9,8 @@ use Rattle.ink_grammar.specs.Tree.{Tree}
 use Rattle.ink_reading.specs.Reading.{Reads, Refuses, ComesTo}
 use Rattle.ink_first.specs.FirstForm.{IsFirstForm}
 use Rattle.ink_top.specs.World.{Program}
-use Rattle.ink_top.specs.declared.verdict.Form.{Form}
-use Rattle.ink_top.specs.declared.verdict.Form.TheVariants as form
+use Rattle.ink_top.specs.declared.verdict.ModuleKind.{ModuleKind}
+use Rattle.ink_top.specs.declared.verdict.ModuleKind.TheVariants as kind
 
 -- the refusal of a source that has no token
 abbrev pub no_main : Refusal
@@ -53,8 +53,8 @@ pub record IsOnlyVerdict (limits bytes : List ℕ) (verdict : Verdict) : Type 0 
   pub only : (other : Verdict) → IsVerdict limits bytes other → other ≡ verdict
 
 -- the answer is the verdict; where there was no memory, nothing is known
-abbrev pub Judges : List ℕ → List ℕ → Result Form JudgeFault → Type 0
-Judges limits bytes (Ok (form.First texts)) = IsOnlyVerdict limits bytes (Accepted texts.items)
-Judges limits bytes (Ok form.Other) = IsOnlyVerdict limits bytes Unbuilt
+abbrev pub Judges : List ℕ → List ℕ → Result ModuleKind JudgeFault → Type 0
+Judges limits bytes (Ok (kind.First texts)) = IsOnlyVerdict limits bytes (Accepted texts.items)
+Judges limits bytes (Ok kind.Other) = IsOnlyVerdict limits bytes Unbuilt
 Judges limits bytes (Err (fault.Refused refusal)) = IsOnlyVerdict limits bytes (Refused refusal)
 Judges limits bytes (Err fault.OutOfMemory) = Unit {0}

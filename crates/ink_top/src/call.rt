@@ -10,7 +10,7 @@ ghost use Rattle.ink_top.specs.Runs.{state_of};
 
 use crate::cause::Cause;
 use crate::run::{RunFault, run};
-use crate::verdict::{Form, judge};
+use crate::verdict::{ModuleKind, judge};
 use ink_base::{
     Failed, FileFault, Files, Gate, Journal, JudgeFault, Limit, Limits, Sink, Text, write_whole,
 };
@@ -34,8 +34,8 @@ fn run_source<K: Sink>(
     match judge(alloc, source, limits) {
         Err(JudgeFault::Refused(refusal)) => Cause::Refused(refusal),
         Err(JudgeFault::OutOfMemory) => Cause::OutOfMemory,
-        Ok(Form::Other) => Cause::Unbuilt,
-        Ok(Form::First(texts)) => match run(alloc, &texts, journal, out) {
+        Ok(ModuleKind::Other) => Cause::Unbuilt,
+        Ok(ModuleKind::First(texts)) => match run(alloc, &texts, journal, out) {
             Ok(()) => Cause::Quiet,
             Err(RunFault::SinkFailed) => Cause::WriteFault,
             Err(RunFault::OutOfMemory) => Cause::OutOfMemory,

@@ -7,8 +7,6 @@
 mod call;
 mod cause;
 mod run;
-#[cfg(test)]
-mod tests;
 mod verdict;
 
 pub use call::{Ended, inko_main};

@@ -8,7 +8,7 @@ use std::alloc::Global;
 
 /// What a module is, as far as runs are built.
 #[derive(Drop)]
-pub enum Form {
+pub enum ModuleKind {
     /// Its main prints these texts, and does nothing else.
     First(Vec<Text>),
     /// More than that.
@@ -18,7 +18,7 @@ pub enum Form {
 /// What the module of a source is.
 ///
 /// Refused is the first phase of the reading that the source breaks, and with `NoMain` a source that has no token.
-pub fn judge(alloc: Global, source: &[u8], limits: &Limits) -> Result<Form, JudgeFault>
+pub fn judge(alloc: Global, source: &[u8], limits: &Limits) -> Result<ModuleKind, JudgeFault>
     ensures { Judges limits.now source.now result }
 {
     let reading = read_module(alloc, source, limits)?;
@@ -30,7 +30,7 @@ pub fn judge(alloc: Global, source: &[u8], limits: &Limits) -> Result<Form, Judg
         }));
     }
     match first_form(alloc, source, &reading.tokens)? {
-        Some(texts) => Ok(Form::First(texts)),
-        None => Ok(Form::Other),
+        Some(texts) => Ok(ModuleKind::First(texts)),
+        None => Ok(ModuleKind::Other),
     }
 }
