@@ -1,6 +1,5 @@
 pub mod Appended
 pub mod Examples
 pub mod IdentLemmas
-pub mod NumberedLemmas
-pub mod RowsLemmas
+pub mod LimitLemmas
 pub mod StoredLemmas

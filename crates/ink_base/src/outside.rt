@@ -10,11 +10,11 @@ use crate::text::Text;
 use std::alloc::{AllocError, Global};
 
 /// A call on a device that failed. The object that was called has counted it.
-#[derive(Clone, Copy, Debug, PartialEq, Eq)]
+#[derive(Clone, Copy)]
 pub struct Failed;
 
 /// Why a call on files gives nothing.
-#[derive(Clone, Copy, Debug, PartialEq, Eq)]
+#[derive(Clone, Copy)]
 pub enum FileFault {
     /// The files failed, which they have counted with the name.
     Failed,

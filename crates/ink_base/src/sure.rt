@@ -13,7 +13,7 @@ use std::alloc::Global;
 use std::marker::Model;
 
 /// Files in memory. Only a read of a name that isn't there fails.
-#[derive(Debug, Drop)]
+#[derive(Drop)]
 pub struct SureFiles {
     files: Stored,
     reads: Faults,
@@ -40,7 +40,7 @@ impl SureFiles {
     }
 
     /// The bytes under a name. `None` exactly where it isn't there.
-    pub fn held(&self, name: &Text) -> Option<&[u8]>
+    pub fn get(&self, name: &Text) -> Option<&[u8]>
         ensures { option_copied result ≡ bytes_under self.now.files name.now }
     {
         self.files.get(name)
@@ -85,7 +85,7 @@ impl Files for SureFiles {
 }
 
 /// A sink that takes all bytes, and keeps none.
-#[derive(Clone, Copy, Debug, PartialEq, Eq)]
+#[derive(Clone, Copy)]
 pub struct SureSink;
 
 impl SureSink {
@@ -108,35 +108,9 @@ impl Sink for SureSink {
 }
 
 /// A gate that lets every worker pass.
-#[derive(Clone, Copy, Debug, PartialEq, Eq)]
+#[derive(Clone, Copy)]
 pub struct OpenGate;
 
 impl Gate for OpenGate {
     fn enter(&self, _worker: u32, _process: u32) {}
-}
-
-#[cfg(test)]
-mod tests {
-    use super::*;
-    use crate::outside::write_whole;
-    use std::test::Fail;
-
-    #[test]
-    fn only_an_absent_name_fails(rt: HostRuntime) -> Result<(), Fail> {
-        let alloc = rt.alloc();
-        let name = Text::of(alloc, b"a.inko")?;
-        let mut files = SureFiles::new(Vec::new(alloc));
-        assert_eq!(rt; files.read(alloc, &name, 9).err(), Some(FileFault::Failed));
-        files.write(&name, b"hello")?;
-        assert_eq!(rt; files.read(alloc, &name, 4)?.as_slice(), b"hell".as_slice());
-        assert_eq!(rt; files.held(&name), Some(b"hello".as_slice()));
-        Ok(())
-    }
-
-    #[test]
-    fn takes_whatever_comes(rt: HostRuntime) -> Result<(), Fail> {
-        write_whole(&mut SureSink::new(), b"hello\n")?;
-        OpenGate.enter(1, 2);
-        Ok(())
-    }
 }
