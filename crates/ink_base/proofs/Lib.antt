@@ -2,4 +2,5 @@ pub mod Appended
 pub mod Examples
 pub mod IdentLemmas
 pub mod LimitLemmas
+pub mod SliceLemmas
 pub mod StoredLemmas

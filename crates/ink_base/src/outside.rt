@@ -77,6 +77,14 @@ pub trait Gate {
     fn enter(&self, worker: u32, process: u32);
 }
 
+/// A gate that lets every worker pass.
+#[derive(Clone, Copy)]
+pub struct OpenGate;
+
+impl Gate for OpenGate {
+    fn enter(&self, _worker: u32, _process: u32) {}
+}
+
 /// Writes all of the bytes, piece by piece, and makes no call after one that failed.
 pub fn write_whole<K: Sink>(sink: &mut K, bytes: &[u8]) -> Result<(), Failed>
     ensures contents { OnOk result (K.contents sink.new ≡ appended (K.contents sink.old) bytes.now) }
