@@ -1,6 +1,6 @@
 pub mod Appended
 pub mod Examples
 pub mod IdentLemmas
-pub mod NumberedLemmas
-pub mod RowsLemmas
+pub mod LimitLemmas
+pub mod SliceLemmas
 pub mod StoredLemmas

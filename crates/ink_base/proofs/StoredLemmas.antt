@@ -26,39 +26,39 @@ absent_head file files name none =
     let parts = if_none (bytes_eq file.0 name) file.1.items (bytes_under files name) none in
     ((λ same. let told = bytes_eq-same file.0 name same in let other = parts.0 in cc), parts.1)
 
--- the first place with the name
-pub IsAt-first : (files : List File) (name : List ℕ) (place : ℕ) (default : File) → bytes_under (take place files) name ≡ None → place < length files → (get_or files place default).0 ≡ name → IsAt files name place
-IsAt-first [] name place default none within same = absurd (omega arith)
+-- the first index with the name
+pub IsAt-first : (files : List File) (name : List ℕ) (index : ℕ) (default : File) → bytes_under (take index files) name ≡ None → index < length files → (get_or files index default).0 ≡ name → IsAt files name index
+IsAt-first [] name index default none within same = absurd (omega arith)
 IsAt-first (file ∷ files) name zero default none within same = same
-IsAt-first (file ∷ files) name (suc place) default none within same =
-    let parts = absent_head file (take place files) name none in
-    (parts.0, IsAt-first files name place default parts.1 (omega arith) same)
+IsAt-first (file ∷ files) name (suc index) default none within same =
+    let parts = absent_head file (take index files) name none in
+    (parts.0, IsAt-first files name index default parts.1 (omega arith) same)
 
--- what the file at the place holds
-pub bytes_under-IsAt : (files : List File) (name : List ℕ) (place : ℕ) (default : File) → IsAt files name place → bytes_under files name ≡ Some (get_or files place default).1.items
-bytes_under-IsAt [] name place default at = absurd at
+-- what the file at the index holds
+pub bytes_under-IsAt : (files : List File) (name : List ℕ) (index : ℕ) (default : File) → IsAt files name index → bytes_under files name ≡ Some (get_or files index default).1.items
+bytes_under-IsAt [] name index default at = absurd at
 bytes_under-IsAt (file ∷ files) name zero default at = rw (bytes_eq-same file.0 name at) refl
-bytes_under-IsAt (file ∷ files) name (suc place) default at =
-    rw (bytes_eq-other file.0 name at.0) (bytes_under-IsAt files name place default at.1)
+bytes_under-IsAt (file ∷ files) name (suc index) default at =
+    rw (bytes_eq-other file.0 name at.0) (bytes_under-IsAt files name index default at.1)
 
-pub IsAt-within : (files : List File) (name : List ℕ) (place : ℕ) → IsAt files name place → place < length files
-IsAt-within [] name place at = absurd at
+pub IsAt-within : (files : List File) (name : List ℕ) (index : ℕ) → IsAt files name index → index < length files
+IsAt-within [] name index at = absurd at
 IsAt-within (file ∷ files) name zero at = omega arith
-IsAt-within (file ∷ files) name (suc place) at = omega (arith, IsAt-within files name place at.1)
+IsAt-within (file ∷ files) name (suc index) at = omega (arith, IsAt-within files name index at.1)
 
--- a write in that place
-pub bytes_under-set : (files : List File) (name : List ℕ) (place : ℕ) (bytes : Vec ℕ Global) → IsAt files name place → bytes_under (slice_set files place (name, bytes)) name ≡ Some bytes.items
-bytes_under-set [] name place bytes at = absurd at
+-- a write at that index
+pub bytes_under-set : (files : List File) (name : List ℕ) (index : ℕ) (bytes : Vec ℕ Global) → IsAt files name index → bytes_under (slice_set files index (name, bytes)) name ≡ Some bytes.items
+bytes_under-set [] name index bytes at = absurd at
 bytes_under-set (file ∷ files) name zero bytes at = rw (bytes_eq-same name name refl) refl
-bytes_under-set (file ∷ files) name (suc place) bytes at =
-    rw (bytes_eq-other file.0 name at.0) (bytes_under-set files name place bytes at.1)
+bytes_under-set (file ∷ files) name (suc index) bytes at =
+    rw (bytes_eq-other file.0 name at.0) (bytes_under-set files name index bytes at.1)
 
-pub bytes_under-set_other : (files : List File) (name : List ℕ) (place : ℕ) (bytes : Vec ℕ Global) (other : List ℕ) → IsAt files name place → other ≢ name → bytes_under (slice_set files place (name, bytes)) other ≡ bytes_under files other
-bytes_under-set_other [] name place bytes other at differ = absurd at
+pub bytes_under-set_other : (files : List File) (name : List ℕ) (index : ℕ) (bytes : Vec ℕ Global) (other : List ℕ) → IsAt files name index → other ≢ name → bytes_under (slice_set files index (name, bytes)) other ≡ bytes_under files other
+bytes_under-set_other [] name index bytes other at differ = absurd at
 bytes_under-set_other (file ∷ files) name zero bytes other at differ =
     rw (bytes_eq-other name other (λ same. differ (sym same)), bytes_eq-other file.0 other (λ same. differ (sym same ∙ at))) refl
-bytes_under-set_other (file ∷ files) name (suc place) bytes other at differ =
-    ap (cond (bytes_eq file.0 other) (Some file.1.items)) (bytes_under-set_other files name place bytes other at.1 differ)
+bytes_under-set_other (file ∷ files) name (suc index) bytes other at differ =
+    ap (cond (bytes_eq file.0 other) (Some file.1.items)) (bytes_under-set_other files name index bytes other at.1 differ)
 
 -- a file more at the end
 pub bytes_under-push : (files : List File) (name : List ℕ) (bytes : Vec ℕ Global) → bytes_under files name ≡ None → bytes_under (files ++ (name, bytes) ∷ []) name ≡ Some bytes.items
@@ -73,11 +73,11 @@ bytes_under-push_other (file ∷ files) name bytes other differ =
     ap (cond (bytes_eq file.0 other) (Some file.1.items)) (bytes_under-push_other files name bytes other differ)
 
 -- no write puts a name twice
-pub AreApart-set : (files : List File) (name : List ℕ) (place : ℕ) (bytes : Vec ℕ Global) → IsAt files name place → AreApart files → AreApart (slice_set files place (name, bytes))
-AreApart-set [] name place bytes at apart = absurd at
+pub AreApart-set : (files : List File) (name : List ℕ) (index : ℕ) (bytes : Vec ℕ Global) → IsAt files name index → AreApart files → AreApart (slice_set files index (name, bytes))
+AreApart-set [] name index bytes at apart = absurd at
 AreApart-set (file ∷ files) name zero bytes at apart = (ap (bytes_under files) (sym at) ∙ apart.0, apart.1)
-AreApart-set (file ∷ files) name (suc place) bytes at apart =
-    (bytes_under-set_other files name place bytes file.0 at.1 at.0 ∙ apart.0, AreApart-set files name place bytes at.1 apart.1)
+AreApart-set (file ∷ files) name (suc index) bytes at apart =
+    (bytes_under-set_other files name index bytes file.0 at.1 at.0 ∙ apart.0, AreApart-set files name index bytes at.1 apart.1)
 
 pub AreApart-push : (files : List File) (name : List ℕ) (bytes : Vec ℕ Global) → bytes_under files name ≡ None → AreApart files → AreApart (files ++ (name, bytes) ∷ [])
 AreApart-push [] name bytes absent apart = (refl, tt)
@@ -85,9 +85,9 @@ AreApart-push (file ∷ files) name bytes absent apart =
     let parts = absent_head file files name absent in
     (bytes_under-push_other files name bytes file.0 parts.0 ∙ apart.0, AreApart-push files name bytes parts.1 apart.1)
 
--- a name that is not among the first files, and not at the next place, is not among one more
-pub bytes_under-take_more : (files : List File) (name : List ℕ) (place : ℕ) (default : File) → place < length files → bytes_under (take place files) name ≡ None → (get_or files place default).0 ≢ name → bytes_under (take (place + 1) files) name ≡ None
-bytes_under-take_more files name place default within none differ =
-    let next = get_or files place default in
-    rw (take_more files place default within)
-    (bytes_under-push_other (take place files) next.0 next.1 name (λ same. differ (sym same)) ∙ none)
+-- a name that is not among the first files, and not at the next index, is not among one more
+pub bytes_under-take_more : (files : List File) (name : List ℕ) (index : ℕ) (default : File) → index < length files → bytes_under (take index files) name ≡ None → (get_or files index default).0 ≢ name → bytes_under (take (index + 1) files) name ≡ None
+bytes_under-take_more files name index default within none differ =
+    let next = get_or files index default in
+    rw (take_more files index default within)
+    (bytes_under-push_other (take index files) next.0 next.1 name (λ same. differ (sym same)) ∙ none)

@@ -1,8 +1,12 @@
-use Rattle.std.specs.Prelude.{ℕ, ◌+◌, ◌-◌, ◌^◌, ◌<◌, ◌≤◌, List, [], ◌∷◌, length, codes, slice_index, EachIndex, Option, None, Some}
+use Rattle.std.specs.Prelude.{ℕ, ◌^◌, ◌<◌, ◌≤◌, List, [], ◌∷◌, codes, slice_index, EachIndex, Option, None, Some}
 use Rattle.ink_base.specs.declared.limits.Limit.{Limit}
 use Rattle.ink_base.specs.declared.limits.Limit.TheVariants.{Source, Height, Frames, Objects, Serial, Array, Text, Processes, Mailbox, Futures, Events, Local, Slice, Workers}
 
--- the index of a limit among the fourteen numbers
+-- all limits, in their order
+abbrev pub all_limits : List Limit
+all_limits = Source ∷ Height ∷ Frames ∷ Objects ∷ Serial ∷ Array ∷ Text ∷ Processes ∷ Mailbox ∷ Futures ∷ Events ∷ Local ∷ Slice ∷ Workers ∷ []
+
+-- the index of a limit among them, counted from 0
 abbrev pub index_of : Limit → ℕ
 index_of Source = 0
 index_of Height = 1
@@ -34,9 +38,6 @@ limit_of limit numbers = slice_index numbers (index_of limit)
 abbrev pub greatest_of : Limit → ℕ
 greatest_of limit = limit_of limit greatest_numbers
 
-abbrev pub default_of : Limit → ℕ
-default_of limit = limit_of limit default_numbers
-
 -- the number is one that the limit may have
 abbrev pub IsInRange : Limit → ℕ → Type 0
 IsInRange limit n = (1 ≤ n) × (n ≤ greatest_of limit)
@@ -49,10 +50,10 @@ IsInRangeAt numbers index = (1 ≤ slice_index numbers index) × (slice_index nu
 abbrev pub AreInRange : List ℕ → Type 0
 AreInRange numbers = EachIndex greatest_numbers (IsInRangeAt numbers)
 
--- the number in this place, counted from 1, is the first that isn't in its range
-abbrev pub IsFirstOut : List ℕ → ℕ → Type 0
-IsFirstOut numbers k =
-    (1 ≤ k) × (k ≤ length greatest_numbers) × ¬ IsInRangeAt numbers (k - 1) × ((before : ℕ) → before + 1 < k → IsInRangeAt numbers before)
+-- of the limits in their order, this is the first whose number isn't in its range
+abbrev pub IsFirstOut : List ℕ → Limit → Type 0
+IsFirstOut numbers limit =
+    ¬ IsInRangeAt numbers (index_of limit) × ((before : ℕ) → before < index_of limit → IsInRangeAt numbers before)
 
 -- the option by which a user gives a limit
 abbrev pub option_word : Limit → List ℕ

@@ -16,11 +16,11 @@ abbrev pub AreApart : List File → Type 0
 AreApart [] = Unit {0}
 AreApart (file ∷ files) = (bytes_under files file.0 ≡ None) × AreApart files
 
--- the first file of this name stands at this place
+-- the first file of this name stands at this index
 abbrev pub IsAt : List File → List ℕ → ℕ → Type 0
-IsAt [] name place = ⊥
+IsAt [] name index = ⊥
 IsAt (file ∷ files) name zero = file.0 ≡ name
-IsAt (file ∷ files) name (suc place) = (file.0 ≢ name) × IsAt files name place
+IsAt (file ∷ files) name (suc index) = (file.0 ≢ name) × IsAt files name index
 
 -- what a write of these bytes under this name makes of the files
 abbrev pub PutsUnder : List File → List File → List ℕ → List ℕ → Type 0

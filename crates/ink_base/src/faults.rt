@@ -7,7 +7,7 @@ use crate::text::Text;
 /// How often calls of one kind failed, and the name in the last of them that did.
 ///
 /// The count stops at the greatest `u64`.
-#[derive(Debug, Drop)]
+#[derive(Drop)]
 pub struct Faults {
     pub count: u64,
     pub name: Option<Text>,
@@ -32,13 +32,13 @@ impl Faults {
         ensures rises { CountsFault self.old.count self.new.count }
         ensures name { self.new.name ≡ Some name }
     {
-        self.count = counted(self.count);
+        self.count = one_more(self.count);
         self.name = Some(name);
     }
 }
 
 /// The count with one more, up to the greatest `u64`.
-pub(crate) fn counted(count: u64) -> u64
+pub(crate) fn one_more(count: u64) -> u64
     ensures value { result ≡ one_more count }
     ensures rises { CountsFault count result }
 {

@@ -3,7 +3,7 @@
 //! Who sets a future and who waits for it is not known here.
 
 /// How a future stands, where values of this type are set.
-#[derive(Debug, Drop)]
+#[derive(Drop)]
 pub enum FutureState<T> {
     /// No value was set yet, and one can still be.
     Open,

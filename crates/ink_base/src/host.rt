@@ -4,7 +4,7 @@
 ghost use Rattle.std.specs.Prelude.{◌≡◌, ℕ, ◌≤◌, length, Option, None, Err, IfSome};
 ghost use Rattle.ink_base.specs.Outside.{no_faults, TellsFault};
 
-use crate::faults::{Faults, counted};
+use crate::faults::{Faults, one_more};
 use crate::outside::{Failed, FileFault, Files, Sink};
 use crate::text::Text;
 use std::alloc::Global;
@@ -140,7 +140,7 @@ impl<W: Write> Sink for HostSink<W> {
         match write_some(&mut self.writer, piece) {
             Some(count) if 0 < count || piece.is_empty() => Ok(count),
             _ => {
-                self.faults = counted(self.faults);
+                self.faults = one_more(self.faults);
                 Err(Failed)
             }
         }
@@ -159,75 +159,4 @@ fn write_some<W: Write>(writer: &mut W, piece: &[u8]) -> Option<usize>
         }
     }
     None
-}
-
-#[cfg(test)]
-mod tests {
-    use super::*;
-    use crate::outside::write_whole;
-    use std::test::Fail;
-
-    /// A writer that a signal interrupts first, and that takes two bytes, then none, and then is closed.
-    #[derive(Drop)]
-    struct Fussy {
-        calls: u8,
-    }
-
-    impl Write for Fussy {
-        fn write(&mut self, piece: &[u8]) -> io::Result<usize> {
-            self.calls = self.calls.saturating_add(1);
-            match self.calls {
-                1 => Err(io::Error::from(ErrorKind::Interrupted)),
-                2 => Ok(piece.len().min(2)),
-                3 => Ok(0),
-                _ => Err(io::Error::from(ErrorKind::BrokenPipe)),
-            }
-        }
-
-        fn flush(&mut self) -> io::Result<()> {
-            Ok(())
-        }
-    }
-
-    #[test]
-    fn files_of_the_system(rt: HostRuntime) -> Result<(), Fail> {
-        let alloc = rt.alloc();
-        let name = Text::of(alloc, b"host_test.inko")?;
-        let absent = Text::of(alloc, b"host_test_absent.inko")?;
-        let not_text = Text::of(alloc, b"\xff")?;
-        let mut files = HostFiles::new(&rt);
-        files.write(&name, b"hello")?;
-        assert_eq!(rt;
-            files.read(alloc, &name, 100)?.as_slice(),
-            b"hello".as_slice()
-        );
-        assert_eq!(rt; files.read(alloc, &name, 4)?.as_slice(), b"hell".as_slice());
-        fs::remove_file(&rt, "host_test.inko")?;
-        assert_eq!(rt;
-            files.read(alloc, &not_text, 9).err(),
-            Some(FileFault::Failed)
-        );
-        assert_eq!(rt;
-            files.read(alloc, &absent, 9).err(),
-            Some(FileFault::Failed)
-        );
-        assert_eq!(rt; files.reads.count, 2);
-        assert_eq!(rt; files.writes.count, 0);
-        let last = files.reads.name.as_ref();
-        assert!(rt; last.is_some_and(|name| name.is(b"host_test_absent.inko")));
-        Ok(())
-    }
-
-    #[test]
-    fn stream_of_the_system(rt: HostRuntime) -> Result<(), Fail> {
-        let mut sink = HostSink::new(Vec::new(rt.alloc()));
-        write_whole(&mut sink, b"hello\n")?;
-        assert_eq!(rt; sink.writer.as_slice(), b"hello\n".as_slice());
-        let mut fussy = HostSink::new(Fussy { calls: 0 });
-        assert_eq!(rt; fussy.write(b"abc"), Ok(2));
-        assert_eq!(rt; fussy.write(b"c"), Err(Failed));
-        assert_eq!(rt; fussy.write(b"c"), Err(Failed));
-        assert_eq!(rt; fussy.faults, 2);
-        Ok(())
-    }
 }

@@ -28,27 +28,3 @@ pub enum BorrowKind {
     Ref,
     Mut,
 }
-
-#[cfg(test)]
-mod tests {
-    use super::*;
-
-    #[test]
-    fn process_before_serial(rt: HostRuntime) {
-        let first = ObjectId {
-            process: 1,
-            serial: 9,
-        };
-        let second = ObjectId {
-            process: 2,
-            serial: 1,
-        };
-        let third = ObjectId {
-            process: 2,
-            serial: 2,
-        };
-        assert!(rt; first < second && second < third && first < third);
-        assert_eq!(rt; second.compare(&first), Ordering::Greater);
-        assert_eq!(rt; second.compare(&second), Ordering::Equal);
-    }
-}

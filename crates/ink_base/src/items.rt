@@ -9,7 +9,7 @@ use std::alloc::{AllocFailed, Global};
 use std::marker::Model;
 use std::mem;
 
-/// A list, seen as its items in order. Places count from 0.
+/// A list, seen as its items in order. Indices count from 0.
 #[derive(Debug, Drop)]
 pub struct Items<T> {
     items: Vec<T>,
@@ -57,12 +57,12 @@ impl<T> Items<T> {
         self.items.is_empty()
     }
 
-    /// The item at a place. `None` exactly from the length on.
-    pub fn get(&self, place: u64) -> Option<&T>
-        ensures { option_copied result ≡ slice_get self.now place }
+    /// The item at an index. `None` exactly from the length on.
+    pub fn get(&self, index: u64) -> Option<&T>
+        ensures { option_copied result ≡ slice_get self.now index }
     {
-        if place < self.len() {
-            Some(&self.items[place as usize])
+        if index < self.len() {
+            Some(&self.items[index as usize])
         } else {
             None
         }
@@ -75,16 +75,16 @@ impl<T> Items<T> {
         self.items.as_slice()
     }
 
-    /// Puts an item in a place, and gives the one that stood there.
-    pub fn set(&mut self, place: u64, item: T) -> T
-        requires { place < length self.old }
-        ensures old { slice_get self.old place ≡ Some result }
-        ensures after { self.new ≡ slice_set self.old place item }
+    /// Puts an item at an index, and gives the one that stood there.
+    pub fn set(&mut self, index: u64, item: T) -> T
+        requires { index < length self.old }
+        ensures old { slice_get self.old index ≡ Some result }
+        ensures after { self.new ≡ slice_set self.old index item }
     {
-        mem::replace(&mut self.items[place as usize], item)
+        mem::replace(&mut self.items[index as usize], item)
     }
 
-    /// Two items change places.
+    /// Swaps two items.
     pub fn swap(&mut self, one: u64, other: u64)
         requires one { one < length self.old }
         requires other { other < length self.old }
@@ -107,62 +107,5 @@ impl<T> Items<T> {
         ensures { MatchOption result ((self.old ≡ []) × (self.new ≡ [])) (λ item. self.old ≡ self.new ++ item ∷ []) }
     {
         self.items.pop()
-    }
-}
-
-#[cfg(test)]
-mod tests {
-    use super::*;
-    use crate::value::Value;
-    use std::test::Fail;
-
-    /// What a crate above has: a struct with such lists in it.
-    #[derive(Debug, Drop)]
-    struct Frame {
-        registers: Items<Value>,
-        lines: Items<u32>,
-    }
-
-    /// Empties a register, and gives what it held.
-    fn move_out(frame: &mut Frame, register: u64) -> Value
-        requires { register < length frame.old.registers }
-        ensures { frame.new ≡ record frame.old { registers = slice_set frame.old.registers register Value.Empty } }
-    {
-        frame.registers.set(register, Value::Empty)
-    }
-
-    #[test]
-    fn lists_at_their_ends(rt: HostRuntime) -> Result<(), Fail> {
-        let mut list = Items::new(rt.alloc());
-        assert!(rt; list.is_empty());
-        assert_eq!(rt; list.get(0), None);
-        assert_eq!(rt; list.pop(), None);
-        for number in [7u32, 8, 9] {
-            list.push(number)?;
-        }
-        assert_eq!(rt; list.len(), 3);
-        assert_eq!(rt; list.get(2).copied(), Some(9));
-        assert_eq!(rt; list.get(3), None);
-        assert_eq!(rt; list.set(0, 6), 7);
-        assert_eq!(rt; list.as_slice(), [6, 8, 9].as_slice());
-        assert_eq!(rt; list.pop(), Some(9));
-        assert_eq!(rt; list.len(), 2);
-        Ok(())
-    }
-
-    #[test]
-    fn lists_of_values(rt: HostRuntime) -> Result<(), Fail> {
-        let registers = Items::of(vec![in rt.alloc(); Value::Int(4), Value::Nil]?);
-        let mut frame = Frame {
-            registers,
-            lines: Items::new(rt.alloc()),
-        };
-        assert!(rt; frame.lines.is_empty());
-        assert!(rt; frame.registers.len() > 0);
-        let moved = move_out(&mut frame, 0);
-        assert!(rt; matches!(moved, Value::Int(4)));
-        assert!(rt; matches!(frame.registers.get(0), Some(Value::Empty)));
-        assert!(rt; matches!(frame.registers.get(1), Some(Value::Nil)));
-        Ok(())
     }
 }

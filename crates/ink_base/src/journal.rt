@@ -7,7 +7,7 @@ use std::marker::Model;
 /// The events of a run in the order in which they were made, each named by the number of its process.
 ///
 /// A contract sees its entries, and `spare`, the number of entries that it can take without memory.
-#[derive(Debug, Drop)]
+#[derive(Drop)]
 pub struct Journal {
     entries: Vec<u32>,
 }
@@ -72,25 +72,5 @@ impl Journal {
         } else {
             None
         }
-    }
-}
-
-#[cfg(test)]
-mod tests {
-    use super::*;
-    use std::test::Fail;
-
-    #[test]
-    fn keeps_entries(rt: HostRuntime) -> Result<(), Fail> {
-        let mut journal = Journal::new(rt.alloc());
-        assert!(rt; journal.is_empty());
-        journal.reserve(2)?;
-        journal.add(7);
-        journal.add(3);
-        assert_eq!(rt; journal.len(), 2);
-        for (index, want) in [(0, Some(7)), (1, Some(3)), (2, None), (u64::MAX, None)] {
-            assert_eq!(rt; journal.get(index), want, "at {index}");
-        }
-        Ok(())
     }
 }

@@ -1,14 +1,14 @@
 //! The limits of a run: fourteen numbers, each kept in its range.
 //!
 //! What a run does at a limit is not known here, but for the texts of the panics.
-ghost use Rattle.std.specs.Prelude.{◌≡◌, IfErr, IfOk, OnOk};
+ghost use Rattle.std.specs.Prelude.{◌≡◌, slice_set, IfErr, IfOk, OnOk};
 ghost use Rattle.std.specs.Option.{option_copied};
-ghost use Rattle.ink_base.specs.Limits.{index_of, greatest_of, default_of, option_word, panic_text, IsInRange, AreInRange, IsFirstOut, limit_of, default_numbers};
+ghost use Rattle.ink_base.specs.Limits.{index_of, greatest_of, option_word, panic_text, IsInRange, AreInRange, IsFirstOut, limit_of, default_numbers};
 
 use std::marker::Model;
 
 /// The limits, in the order in which their numbers stand.
-#[derive(Clone, Copy, Debug, PartialEq, Eq)]
+#[derive(Clone, Copy, Debug)]
 pub enum Limit {
     /// The bytes of a source.
     Source,
@@ -77,6 +77,24 @@ const DEFAULTS: [u64; 14] = [
 ];
 
 impl Limit {
+    /// All limits, in their order.
+    pub const ALL: [Limit; 14] = [
+        Limit::Source,
+        Limit::Height,
+        Limit::Frames,
+        Limit::Objects,
+        Limit::Serial,
+        Limit::Array,
+        Limit::Text,
+        Limit::Processes,
+        Limit::Mailbox,
+        Limit::Futures,
+        Limit::Events,
+        Limit::Local,
+        Limit::Slice,
+        Limit::Workers,
+    ];
+
     /// Its index among the limits, counted from 0.
     pub fn index(self) -> usize
         ensures { result ≡ index_of self }
@@ -104,13 +122,6 @@ impl Limit {
         ensures { result ≡ greatest_of self }
     {
         GREATEST[self.index()]
-    }
-
-    /// The number that it has where none is given.
-    pub fn default_number(self) -> u64
-        ensures { result ≡ default_of self }
-    {
-        DEFAULTS[self.index()]
     }
 
     /// The option by which a user gives its number.
@@ -161,12 +172,12 @@ impl Limit {
     }
 }
 
-/// A number is out of its limit's range: that of the limit in this place, counted from 1, and it is the first such.
-#[derive(Clone, Copy, Debug, PartialEq, Eq)]
-pub struct BadLimit(pub u32);
+/// A number is out of this limit's range.
+#[derive(Clone, Copy, Debug)]
+pub struct BadLimit(pub Limit);
 
 /// A number for each limit, in its range. A contract sees the list of the numbers in the limits' order.
-#[derive(Clone, Copy, Debug, PartialEq, Eq)]
+#[derive(Clone, Copy)]
 pub struct Limits {
     numbers: [u64; 14],
 }
@@ -185,7 +196,8 @@ impl Model for Limits {
 }
 
 impl Limits {
-    /// The limits with these numbers, in their order. `BadLimit` exactly where one is out of its range.
+    /// The limits with these numbers, in their order. `BadLimit` exactly where one is out of its range, and the first
+    /// such.
     pub fn new(numbers: [u64; 14]) -> Result<Limits, BadLimit>
         ensures numbers { IfOk result (λ limits. limits ≡ numbers) }
         ensures ok { OnOk result (AreInRange numbers) }
@@ -193,7 +205,7 @@ impl Limits {
     {
         for index in 0..14 {
             if numbers[index] < 1 || numbers[index] > GREATEST[index] {
-                return Err(BadLimit(index as u32 + 1));
+                return Err(BadLimit(Limit::ALL[index]));
             }
         }
         Ok(Limits { numbers })
@@ -206,92 +218,25 @@ impl Limits {
         Limits { numbers: DEFAULTS }
     }
 
+    /// The limits with another number for one of them. `BadLimit` exactly where it is out of that limit's range.
+    pub fn with(&self, limit: Limit, number: u64) -> Result<Limits, BadLimit>
+        ensures numbers { IfOk result (λ limits. limits ≡ slice_set self.now (index_of limit) number) }
+        ensures ok { OnOk result (IsInRange limit number) }
+        ensures bad { IfErr result (λ fault. (fault.0 ≡ limit) × ¬ IsInRange limit number) }
+    {
+        if number < 1 || number > limit.greatest() {
+            return Err(BadLimit(limit));
+        }
+        let mut numbers = self.numbers;
+        numbers[limit.index()] = number;
+        Ok(Limits { numbers })
+    }
+
     /// The number of a limit.
     pub fn get(&self, limit: Limit) -> u64
         ensures number { result ≡ limit_of limit self.now }
         ensures range { IsInRange limit result }
     {
         self.numbers[limit.index()]
-    }
-}
-
-#[cfg(test)]
-mod tests {
-    use super::*;
-
-    /// Each limit with its option, its default and its greatest number.
-    fn table() -> [(Limit, &'static str, u64, u64); 14] {
-        [
-            (Limit::Source, "--max-source", 1048576, 16777216),
-            (Limit::Height, "--max-height", 200, 200),
-            (Limit::Frames, "--max-frames", 4096, 65536),
-            (Limit::Objects, "--max-objects", 1048576, 16777216),
-            (Limit::Serial, "--max-serial", 1 << 40, 1 << 62),
-            (Limit::Array, "--max-array", 1048576, 16777216),
-            (Limit::Text, "--max-text", 1048576, 16777216),
-            (Limit::Processes, "--max-processes", 65536, 1048576),
-            (Limit::Mailbox, "--max-mailbox", 1048576, 16777216),
-            (Limit::Futures, "--max-futures", 1048576, 16777216),
-            (Limit::Events, "--max-events", 16777216, 67108864),
-            (Limit::Local, "--max-local", 1 << 62, 1 << 62),
-            (Limit::Slice, "--slice", 1000, 1000000000),
-            (Limit::Workers, "--workers", 4, 64),
-        ]
-    }
-
-    #[test]
-    fn ranges(rt: HostRuntime) {
-        let mut index = 0;
-        for (limit, option, default, greatest) in table() {
-            assert_eq!(rt; limit.index(), index);
-            assert_eq!(rt; limit.option(), option);
-            assert_eq!(rt; Limits::defaults().get(limit), default, "{option}");
-            for (number, is_allowed) in [
-                (0, false),
-                (1, true),
-                (greatest, true),
-                (greatest.wrapping_add(1), false),
-            ] {
-                let mut numbers = [1; 14];
-                assert!(rt; index < 14);
-                numbers[index] = number;
-                match Limits::new(numbers) {
-                    Ok(limits) => {
-                        assert!(rt; is_allowed, "{option} {number}");
-                        assert_eq!(rt; limits.get(limit), number);
-                    }
-                    Err(BadLimit(k)) => {
-                        assert!(rt; !is_allowed, "{option} {number}");
-                        assert_eq!(rt; k as usize, index.wrapping_add(1));
-                    }
-                }
-            }
-            index = index.wrapping_add(1);
-        }
-    }
-
-    #[test]
-    fn first_out_of_range(rt: HostRuntime) {
-        let mut numbers = [1; 14];
-        numbers[6] = 0;
-        numbers[13] = 65;
-        assert_eq!(rt; Limits::new(numbers).err(), Some(BadLimit(7)));
-    }
-
-    #[test]
-    fn panic_texts(rt: HostRuntime) {
-        for (limit, text) in [
-            (Limit::Frames, "limit reached: frames"),
-            (Limit::Objects, "limit reached: objects"),
-            (Limit::Serial, "limit reached: serial"),
-            (Limit::Array, "limit reached: array"),
-            (Limit::Text, "limit reached: text"),
-            (Limit::Processes, "limit reached: processes"),
-            (Limit::Mailbox, "limit reached: mailbox"),
-            (Limit::Futures, "limit reached: futures"),
-        ] {
-            assert_eq!(rt; limit.panic_text(), Some(text));
-        }
-        assert!(rt; Limit::Source.panic_text().is_none());
     }
 }

@@ -5,7 +5,7 @@ ghost use Rattle.ink_base.specs.Outside.{no_faults, TellsFault, Reads, Writes, C
 ghost use Rattle.ink_base.specs.Stored.{bytes_under, AreApart};
 ghost use Rattle.ink_base.specs.Memory.{MeetsPlan, IsAmiss, WritesByPlan, taken_count};
 
-use crate::faults::{Faults, counted};
+use crate::faults::{Faults, one_more};
 use crate::outside::{Failed, FileFault, Files, Sink};
 use crate::stored::{Stored, front_of};
 use crate::text::Text;
@@ -16,7 +16,7 @@ use std::marker::Model;
 ///
 /// Calls are counted from 1, reads and writes together, up to the greatest `u64`. A call for which there is no memory
 /// does nothing and isn't counted.
-#[derive(Debug, Drop)]
+#[derive(Drop)]
 pub struct MemFiles {
     files: Stored,
     fail: Vec<u64>,
@@ -61,7 +61,7 @@ impl MemFiles {
     }
 
     /// The bytes under a name. `None` exactly where it isn't there.
-    pub fn held(&self, name: &Text) -> Option<&[u8]>
+    pub fn get(&self, name: &Text) -> Option<&[u8]>
         ensures { option_copied result ≡ bytes_under self.now.files name.now }
     {
         self.files.get(name)
@@ -85,7 +85,7 @@ impl Files for MemFiles {
         ensures plan { MeetsPlan result self.old self.new (bytes_under self.old.files name.now ≡ None) }
     {
         let told = name.copy(alloc)?;
-        let call = counted(self.calls);
+        let call = one_more(self.calls);
         if !is_listed(self.fail.as_slice(), call) {
             if let Some(bytes) = self.files.get(name) {
                 let found = front_of(alloc, bytes, most)?;
@@ -109,7 +109,7 @@ impl Files for MemFiles {
     {
         let alloc = self.files.allocator();
         let told = name.copy(alloc)?;
-        let call = counted(self.calls);
+        let call = one_more(self.calls);
         if is_listed(self.fail.as_slice(), call) {
             self.calls = call;
             self.writes.tell(told);
@@ -124,7 +124,7 @@ impl Files for MemFiles {
 /// A sink in memory whose calls fail by a plan. Once it is made, it takes no more memory.
 ///
 /// Calls are counted from 1, up to the greatest `u64`.
-#[derive(Debug, Drop)]
+#[derive(Drop)]
 pub struct MemSink {
     bytes: Vec<u8>,
     room: u64,
@@ -201,11 +201,11 @@ impl Sink for MemSink {
         ensures cut { OnErr result (self.new.bytes ≡ self.old.bytes) }
         ensures plan { WritesByPlan result self.old self.new piece.now }
     {
-        self.calls = counted(self.calls);
+        self.calls = one_more(self.calls);
         let taken = taken_of(self.most.as_slice(), self.calls, piece.len());
         let left = self.room as usize - self.bytes.len();
         if is_amiss(self.fail.as_slice(), self.calls, taken, piece.len(), left) {
-            self.faults = counted(self.faults);
+            self.faults = one_more(self.faults);
             return Err(Failed);
         }
         match self.bytes.extend_from_slice(&piece[..taken]) {
@@ -237,90 +237,5 @@ fn taken_of(most: &[u64], call: u64, count: usize) -> usize
     match most.get((call - 1) as usize) {
         Some(limit) => count.min(*limit as usize),
         None => count,
-    }
-}
-
-#[cfg(test)]
-mod tests {
-    use super::*;
-    use crate::outside::write_whole;
-    use std::test::Fail;
-
-    /// A sink that counts its calls.
-    #[derive(Drop)]
-    struct Counting {
-        sink: MemSink,
-        calls: u64,
-    }
-
-    impl Sink for Counting {
-        ghost contents = { λ s. Some s.sink.bytes };
-
-        ghost faults = { λ s. s.sink.faults };
-
-        fn write(&mut self, piece: &[u8]) -> Result<usize, Failed> {
-            self.calls = self.calls.saturating_add(1);
-            self.sink.write(piece)
-        }
-    }
-
-    #[test]
-    fn no_call_follows_one_that_failed(rt: HostRuntime) -> Result<(), Fail> {
-        let fail = vec![in rt.alloc(); 2]?;
-        let most = vec![in rt.alloc(); 3]?;
-        let sink = MemSink::new(rt.alloc(), 100, fail, most)?;
-        let mut counting = Counting { sink, calls: 0 };
-        assert_eq!(rt; write_whole(&mut counting, b"hello\n"), Err(Failed));
-        assert_eq!(rt; counting.sink.bytes(), b"hel".as_slice());
-        assert_eq!(rt; counting.calls, 2);
-        Ok(())
-    }
-
-    #[test]
-    fn sink_takes_what_the_plan_says(rt: HostRuntime) -> Result<(), Fail> {
-        let fail = vec![in rt.alloc(); 6]?;
-        let most = vec![in rt.alloc(); 2, 0]?;
-        let mut sink = MemSink::new(rt.alloc(), 4, fail, most)?;
-        let calls: [(&[u8], Result<usize, Failed>); 7] = [
-            (b"abc", Ok(2)),
-            (b"c", Err(Failed)),
-            (b"", Ok(0)),
-            (b"cde", Err(Failed)),
-            (b"cd", Ok(2)),
-            (b"", Err(Failed)),
-            (b"e", Err(Failed)),
-        ];
-        for (piece, want) in calls {
-            assert_eq!(rt; sink.write(piece), want);
-        }
-        assert_eq!(rt; sink.bytes(), b"abcd".as_slice());
-        Ok(())
-    }
-
-    #[test]
-    fn files_fail_by_the_plan(rt: HostRuntime) -> Result<(), Fail> {
-        let alloc = rt.alloc();
-        let here = Text::of(alloc, b"a.inko")?;
-        let there = Text::of(alloc, b"b.inko")?;
-        let absent = Text::of(alloc, b"c.inko")?;
-        let mut held = Vec::new(alloc);
-        held.push((here.copy(alloc)?, Vec::from_slice(alloc, b"hello")?))?;
-        let mut files = MemFiles::new(held, vec![in alloc; 4]?);
-        assert_eq!(rt; files.read(alloc, &here, 3)?.as_slice(), b"hel".as_slice());
-        files.write(&there, b"xy")?;
-        assert_eq!(rt; files.read(alloc, &there, 10)?.as_slice(), b"xy".as_slice());
-        assert_eq!(rt; files.read(alloc, &here, 10).err(), Some(FileFault::Failed));
-        assert_eq!(rt;
-            files.read(alloc, &absent, 10).err(),
-            Some(FileFault::Failed)
-        );
-        files.write(&here, b"")?;
-        assert_eq!(rt; files.held(&here), Some(b"".as_slice()));
-        assert_eq!(rt; files.held(&there), Some(b"xy".as_slice()));
-        assert_eq!(rt; files.held(&absent), None);
-        assert_eq!(rt; files.reads.count, 2);
-        let last = files.reads.name.as_ref();
-        assert!(rt; last.is_some_and(|name| name.is(b"c.inko")));
-        Ok(())
     }
 }

@@ -10,11 +10,11 @@ use crate::text::Text;
 use std::alloc::{AllocError, Global};
 
 /// A call on a device that failed. The object that was called has counted it.
-#[derive(Clone, Copy, Debug, PartialEq, Eq)]
+#[derive(Clone, Copy)]
 pub struct Failed;
 
 /// Why a call on files gives nothing.
-#[derive(Clone, Copy, Debug, PartialEq, Eq)]
+#[derive(Clone, Copy)]
 pub enum FileFault {
     /// The files failed, which they have counted with the name.
     Failed,
@@ -75,6 +75,14 @@ pub trait Sink {
 pub trait Gate {
     /// Called at the start of each slice, with the numbers of the worker and of its process.
     fn enter(&self, worker: u32, process: u32);
+}
+
+/// A gate that lets every worker pass.
+#[derive(Clone, Copy)]
+pub struct OpenGate;
+
+impl Gate for OpenGate {
+    fn enter(&self, _worker: u32, _process: u32) {}
 }
 
 /// Writes all of the bytes, piece by piece, and makes no call after one that failed.

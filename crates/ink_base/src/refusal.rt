@@ -1,6 +1,6 @@
 //! Refusals: the rule that a source breaks, and where.
 ghost use Rattle.std.specs.Prelude.{◌≡◌, IfOk, Some};
-ghost use Rattle.ink_base.specs.Refusal.{rule_code, rule_text, is_before, refusal_text};
+ghost use Rattle.ink_base.specs.Refusal.{rule_text, refusal_text};
 
 use crate::text::Text;
 use std::alloc::{AllocError, Global};
@@ -9,7 +9,7 @@ use std::fmt;
 /// A place in a source: one byte of it, and the line and the column of that byte.
 ///
 /// Line and column count from 1, the column in bytes. `byte` counts from 0.
-#[derive(Clone, Copy, Debug, PartialEq, Eq)]
+#[derive(Clone, Copy, Debug)]
 pub struct Place {
     pub line: u32,
     pub column: u32,
@@ -28,7 +28,7 @@ impl Place {
 /// The rules that a source can break.
 ///
 /// Each has a code of two digits, which stands in its text behind an `E`.
-#[derive(Clone, Copy, Debug, PartialEq, Eq)]
+#[derive(Clone, Copy, Debug)]
 pub enum Rule {
     /// The source isn't UTF-8.
     NotUtf8,
@@ -100,50 +100,6 @@ pub enum Rule {
     JumpOutOfRecover,
 }
 
-impl Rule {
-    /// The number of its code.
-    pub fn code(self) -> u8
-        ensures { result ≡ rule_code self }
-    {
-        match self {
-            Rule::NotUtf8 => 1,
-            Rule::BadToken => 2,
-            Rule::IntTooWide => 3,
-            Rule::UnendedText => 4,
-            Rule::Unexpected => 5,
-            Rule::TooDeep => 6,
-            Rule::SourceTooLong => 7,
-            Rule::UnknownName => 10,
-            Rule::DuplicateName => 11,
-            Rule::UnknownImport => 12,
-            Rule::NoMain => 13,
-            Rule::TypeArity => 20,
-            Rule::UniArgument => 21,
-            Rule::MissingMethod => 22,
-            Rule::WrongSignature => 23,
-            Rule::DuplicateImpl => 24,
-            Rule::BoundUnmet => 25,
-            Rule::AsyncNotSendable => 26,
-            Rule::WrongType => 30,
-            Rule::ArgumentCount => 31,
-            Rule::UnknownMember => 32,
-            Rule::NotMutable => 33,
-            Rule::NeedsAnnotation => 34,
-            Rule::JumpOutside => 35,
-            Rule::MissingArm => 36,
-            Rule::BadPattern => 38,
-            Rule::MovedUse => 40,
-            Rule::MoveOutOfBorrow => 41,
-            Rule::HiddenInRecover => 50,
-            Rule::BorrowOfUni => 51,
-            Rule::CrossingArgument => 52,
-            Rule::CrossingResult => 53,
-            Rule::RecoverResult => 54,
-            Rule::JumpOutOfRecover => 55,
-        }
-    }
-}
-
 impl fmt::Display for Rule {
     ghost output = { λ rule. Some (rule_text rule) };
 
@@ -211,20 +167,10 @@ impl Refusal {
         }
         Ok(Text::from_bytes(told))
     }
-
-    /// Whether this is told rather than the other, where one phase finds both: it stands at a lesser byte, or at the
-    /// same byte and its code is less.
-    pub fn is_before(&self, other: &Refusal) -> bool
-        ensures { result ≡ is_before self.now other.now }
-    {
-        let byte = self.place.byte;
-        let other_byte = other.place.byte;
-        byte < other_byte || (byte == other_byte && self.rule.code() < other.rule.code())
-    }
 }
 
 /// Why a phase of judging a source gives nothing.
-#[derive(Debug, Drop)]
+#[derive(Drop)]
 pub enum JudgeFault {
     /// The source breaks a rule of the phase.
     Refused(Refusal),
@@ -239,114 +185,5 @@ impl From<AllocError> for JudgeFault {
 
     fn from(_: AllocError) -> JudgeFault {
         JudgeFault::OutOfMemory
-    }
-}
-
-#[cfg(test)]
-mod tests {
-    use super::*;
-    use std::test::Fail;
-
-    /// Each rule as a user is told it.
-    fn table() -> [(Rule, &'static str); 34] {
-        [
-            (Rule::NotUtf8, "E01 NotUtf8"),
-            (Rule::BadToken, "E02 BadToken"),
-            (Rule::IntTooWide, "E03 IntTooWide"),
-            (Rule::UnendedText, "E04 UnendedText"),
-            (Rule::Unexpected, "E05 Unexpected"),
-            (Rule::TooDeep, "E06 TooDeep"),
-            (Rule::SourceTooLong, "E07 SourceTooLong"),
-            (Rule::UnknownName, "E10 UnknownName"),
-            (Rule::DuplicateName, "E11 DuplicateName"),
-            (Rule::UnknownImport, "E12 UnknownImport"),
-            (Rule::NoMain, "E13 NoMain"),
-            (Rule::TypeArity, "E20 TypeArity"),
-            (Rule::UniArgument, "E21 UniArgument"),
-            (Rule::MissingMethod, "E22 MissingMethod"),
-            (Rule::WrongSignature, "E23 WrongSignature"),
-            (Rule::DuplicateImpl, "E24 DuplicateImpl"),
-            (Rule::BoundUnmet, "E25 BoundUnmet"),
-            (Rule::AsyncNotSendable, "E26 AsyncNotSendable"),
-            (Rule::WrongType, "E30 WrongType"),
-            (Rule::ArgumentCount, "E31 ArgumentCount"),
-            (Rule::UnknownMember, "E32 UnknownMember"),
-            (Rule::NotMutable, "E33 NotMutable"),
-            (Rule::NeedsAnnotation, "E34 NeedsAnnotation"),
-            (Rule::JumpOutside, "E35 JumpOutside"),
-            (Rule::MissingArm, "E36 MissingArm"),
-            (Rule::BadPattern, "E38 BadPattern"),
-            (Rule::MovedUse, "E40 MovedUse"),
-            (Rule::MoveOutOfBorrow, "E41 MoveOutOfBorrow"),
-            (Rule::HiddenInRecover, "E50 HiddenInRecover"),
-            (Rule::BorrowOfUni, "E51 BorrowOfUni"),
-            (Rule::CrossingArgument, "E52 CrossingArgument"),
-            (Rule::CrossingResult, "E53 CrossingResult"),
-            (Rule::RecoverResult, "E54 RecoverResult"),
-            (Rule::JumpOutOfRecover, "E55 JumpOutOfRecover"),
-        ]
-    }
-
-    #[test]
-    fn tells_rules(rt: HostRuntime) -> Result<(), Fail> {
-        for (rule, text) in table() {
-            assert_eq!(rt; format!(in rt.alloc(); "{rule}")?.as_str(), text);
-            assert_eq!(rt;
-                format!(in rt.alloc(); "E{:02} ", rule.code())?.as_bytes(),
-                &text.as_bytes()[..4]
-            );
-        }
-        Ok(())
-    }
-
-    fn at(byte: u32, rule: Rule) -> Refusal {
-        Refusal {
-            rule,
-            place: Place {
-                line: 1,
-                column: 1,
-                byte,
-            },
-            detail: None,
-        }
-    }
-
-    #[test]
-    fn least_byte_and_then_least_code(rt: HostRuntime) {
-        for (one, other, is_before) in [
-            (at(3, Rule::BadToken), at(4, Rule::NotUtf8), true),
-            (at(4, Rule::BadToken), at(3, Rule::NotUtf8), false),
-            (at(3, Rule::BadToken), at(3, Rule::IntTooWide), true),
-            (at(3, Rule::IntTooWide), at(3, Rule::BadToken), false),
-            (at(3, Rule::BadToken), at(3, Rule::BadToken), false),
-        ] {
-            assert_eq!(rt; one.is_before(&other), is_before);
-        }
-    }
-
-    #[test]
-    fn tells_refusals(rt: HostRuntime) -> Result<(), Fail> {
-        let mut refusal = Refusal {
-            rule: Rule::MovedUse,
-            place: Place {
-                line: 11,
-                column: 21,
-                byte: 200,
-            },
-            detail: None,
-        };
-        assert!(rt;
-            refusal
-                .text(rt.alloc())?
-                .is(b"E40 MovedUse at line 11, column 21")
-        );
-        refusal.rule = Rule::MissingArm;
-        refusal.detail = Some(Text::of(rt.alloc(), b"Some(_)")?);
-        assert!(rt;
-            refusal
-                .text(rt.alloc())?
-                .is(b"E36 MissingArm at line 11, column 21: Some(_)")
-        );
-        Ok(())
     }
 }

@@ -4,7 +4,7 @@
 //! known here.
 
 /// The built-in types that have built-in methods.
-#[derive(Clone, Copy, Debug, PartialEq, Eq)]
+#[derive(Clone, Copy)]
 pub enum Kind {
     Int,
     Bool,
@@ -17,7 +17,7 @@ pub enum Kind {
 }
 
 /// How a row takes its receiver.
-#[derive(Clone, Copy, Debug, PartialEq, Eq)]
+#[derive(Clone, Copy)]
 pub enum Mode {
     /// `fn`: it reads the receiver.
     Read,
@@ -30,7 +30,7 @@ pub enum Mode {
 }
 
 /// What goes into a row, or comes out of it.
-#[derive(Clone, Copy, Debug, PartialEq, Eq)]
+#[derive(Clone, Copy)]
 pub enum Slot {
     Int,
     Bool,

@@ -8,7 +8,7 @@ use std::alloc::{AllocError, Global};
 use std::marker::Model;
 
 /// Named files, of which no two have one name.
-#[derive(Debug, Drop)]
+#[derive(Drop)]
 pub(crate) struct Stored {
     files: Vec<(Text, Vec<u8>)>,
 }
@@ -42,33 +42,33 @@ impl Stored {
     pub(crate) fn get(&self, name: &Text) -> Option<&[u8]>
         ensures { option_copied result ≡ bytes_under self.now name.now }
     {
-        match place_of(self.files.as_slice(), name.bytes()) {
-            Some(place) => Some(self.files[place].1.as_slice()),
+        match index_of(self.files.as_slice(), name.bytes()) {
+            Some(index) => Some(self.files[index].1.as_slice()),
             None => None,
         }
     }
 
-    /// Puts bytes under a name, in place of what stands there.
+    /// Puts bytes under a name, instead of what stands there.
     pub(crate) fn put(&mut self, name: Text, bytes: Vec<u8>) -> Result<(), AllocError>
         ensures ok { OnOk result (PutsUnder self.old self.new name bytes.items) }
         ensures err { OnErr result (self.new ≡ self.old) }
     {
-        match place_of(self.files.as_slice(), name.bytes()) {
-            Some(place) => self.files[place] = (name, bytes),
+        match index_of(self.files.as_slice(), name.bytes()) {
+            Some(index) => self.files[index] = (name, bytes),
             None => self.files.push((name, bytes))?,
         }
         Ok(())
     }
 }
 
-/// The place of the file with this name.
-fn place_of(files: &[(Text, Vec<u8>)], name: &[u8]) -> Option<usize>
+/// The index of the file with this name.
+fn index_of(files: &[(Text, Vec<u8>)], name: &[u8]) -> Option<usize>
     ensures found { IfSome result (IsAt files.now name.now) }
     ensures absent { IfNone result (bytes_under files.now name.now ≡ None) }
 {
-    for (place, file) in files.iter().enumerate() {
+    for (index, file) in files.iter().enumerate() {
         if file.0.is(name) {
-            return Some(place);
+            return Some(index);
         }
     }
     None

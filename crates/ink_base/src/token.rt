@@ -32,7 +32,7 @@ pub enum TokenKind {
 }
 
 /// A token: its kind and the bytes of the source that it takes, from `start` to before `end`, counted from 0.
-#[derive(Clone, Copy, Debug, PartialEq, Eq)]
+#[derive(Clone, Copy)]
 pub struct Token {
     pub kind: TokenKind,
     pub start: u32,
@@ -50,21 +50,5 @@ impl Token {
         ensures { result.now ≡ token_text self.now source.now }
     {
         &source[self.start as usize..self.end as usize]
-    }
-}
-
-#[cfg(test)]
-mod tests {
-    use super::*;
-
-    #[test]
-    fn takes_its_bytes(rt: HostRuntime) {
-        let token = Token {
-            kind: TokenKind::Name,
-            start: 4,
-            end: 6,
-            new_line: false,
-        };
-        assert_eq!(rt; token.text(b"let ab"), b"ab".as_slice());
     }
 }

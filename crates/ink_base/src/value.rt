@@ -5,7 +5,7 @@ use crate::ident::ObjectId;
 use crate::text::Text;
 use std::alloc::{AllocError, Global};
 
-/// What a place holds.
+/// What a variable, a register or a field holds.
 #[derive(Debug, Drop)]
 pub enum Value {
     Int(i64),
@@ -43,44 +43,5 @@ impl Value {
             Value::Promise(future) => Value::Promise(*future),
             Value::Empty => Value::Empty,
         })
-    }
-}
-
-#[cfg(test)]
-mod tests {
-    use super::*;
-    use std::test::Fail;
-
-    #[test]
-    fn copies_each_kind(rt: HostRuntime) -> Result<(), Fail> {
-        let id = ObjectId {
-            process: 2,
-            serial: 1 << 62,
-        };
-        for (value, shown) in [
-            (Value::Int(i64::MIN), "Int(-9223372036854775808)"),
-            (Value::Bool(true), "Bool(true)"),
-            (Value::Nil, "Nil"),
-            (
-                Value::Txt(Text::of(rt.alloc(), b"ab")?),
-                "Txt(Text { bytes: [97, 98] })",
-            ),
-            (
-                Value::Own(id),
-                "Own(ObjectId { process: 2, serial: 4611686018427387904 })",
-            ),
-            (
-                Value::Bor(id),
-                "Bor(ObjectId { process: 2, serial: 4611686018427387904 })",
-            ),
-            (Value::Proc(3), "Proc(3)"),
-            (Value::Future(4), "Future(4)"),
-            (Value::Promise(5), "Promise(5)"),
-            (Value::Empty, "Empty"),
-        ] {
-            let copied = value.copy(rt.alloc())?;
-            assert_eq!(rt; format!(in rt.alloc(); "{copied:?}")?.as_str(), shown);
-        }
-        Ok(())
     }
 }

@@ -6,7 +6,7 @@ use Rattle.std.specs.Option.{MatchOption, option_and_then}
 use Rattle.std.specs.FinMap.{get}
 use Rattle.ink_base.specs.declared.ident.ObjectId.{ObjectId}
 use Rattle.ink_base.specs.declared.value.Value.{Value}
-use Rattle.ink_base.proofs.NumberedLemmas.{slice_get-append_last}
+use Rattle.ink_base.proofs.SliceLemmas.{slice_get-append_last}
 use Rattle.ink_base.specs.declared.object.Object.{Object}
 use Rattle.ink_heap.specs.Answers.{IsPopAnswer, last_field}
 use Rattle.ink_base.specs.Objects.{changed_object, without_last}

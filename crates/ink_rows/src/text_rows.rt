@@ -20,7 +20,7 @@ fn join(alloc: Global, limits: &Limits, values: &[Value]) -> Result<Computed, Ro
     let (one, other) = pair(values)?;
     let a = text_of(one)?;
     let b = text_of(other)?;
-    match a.joined(alloc, b, limits.get(Limit::Text)) {
+    match a.join(alloc, b, limits.get(Limit::Text)) {
         Ok(text) => Ok(Computed::Gives(Value::Txt(text))),
         Err(TextFault::TooLong(_)) => { Ok(Computed::Raises(limit_text_of(alloc, Limit::Text)?)) }
         Err(TextFault::OutOfMemory) => Err(RowFault::OutOfMemory),

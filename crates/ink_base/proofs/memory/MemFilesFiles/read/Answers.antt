@@ -8,9 +8,9 @@ use Rattle.ink_base.proofs.memory.MemFilesFiles.read.Goals.{then-not-is_listed+i
 -- the plan has the number, or the name isn't there
 pub returns-clause-plan : goal.returns-clause-plan
 returns-clause-plan c =
-    let call = c.counted-call.result in (
+    let call = c.one_more-call.result in (
       ap (λ f. f.planned) c.self.view_is,
-      c.counted-call.ensures.value ∙ ap (λ f. one_more f.calls) c.self.view_is,
+      c.one_more-call.ensures.value ∙ ap (λ f. one_more f.calls) c.self.view_is,
       elim c.if-not-is_listed.branch [
         | then-not-is_listed+in_default w ↦
             inr (ap (λ f. bytes_under f.files c.args.name.now) (sym c.self.view_is)

@@ -7,7 +7,7 @@ use Rattle.ink_base.proofs.stored.Stored.get.Goals as goal
 pub index-requires : goal.index-requires
 index-requires c =
     let at = rw (c.as_slice.ensures.value, c.bytes.ensures) at c.in-Some.ensures.found in
-    let within = IsAt-within c.self.inside.files.items c.args.name.now c.in-Some.place at in
+    let within = IsAt-within c.self.inside.files.items c.args.name.now c.in-Some.index at in
     let len = c.self.inside.files.ok.0 in
     omega arith
 
@@ -16,5 +16,5 @@ returns-in-Some c =
     let at = rw (c.as_slice.ensures.value, c.bytes.ensures) at c.in-Some.ensures.found in
     let file = c.index.result.now in
     ap Some (c.as_slice-in-Some.ensures.value ∙ ap (λ f. f.1.items) c.index.ensures)
-    ∙ sym (bytes_under-IsAt c.self.inside.files.items c.args.name.now c.in-Some.place file at)
+    ∙ sym (bytes_under-IsAt c.self.inside.files.items c.args.name.now c.in-Some.index file at)
     ∙ ap (λ files. bytes_under files c.args.name.now) c.self.view_is

@@ -6,14 +6,14 @@ use Rattle.ink_base.proofs.stored.Stored.put.Goals as goal
 pub index_mut-requires : goal.index_mut-requires
 index_mut-requires c =
     let at = rw (c.as_slice.ensures.value, c.bytes.ensures) at c.in-Some.ensures.found in
-    let within = IsAt-within c.self.inside.files.items c.args.name c.in-Some.place at in
+    let within = IsAt-within c.self.inside.files.items c.args.name c.in-Some.index at in
     let len = c.self.inside.files.ok.0 in
     omega arith
 
 pub invariant_of-self : goal.invariant_of-self
 invariant_of-self c =
     let at = rw (c.as_slice.ensures.value, c.bytes.ensures) at c.in-Some.ensures.found in
-    AreApart-set c.self.inside.files.items c.args.name c.in-Some.place c.args.bytes at c.self.invariant
+    AreApart-set c.self.inside.files.items c.args.name c.in-Some.index c.args.bytes at c.self.invariant
 
 pub invariant_of-self-in-Continue-1 : goal.invariant_of-self-in-Continue-1
 invariant_of-self-in-Continue-1 c =
@@ -25,10 +25,10 @@ pub returns-in-Some-clause-ok : goal.returns-in-Some-clause-ok
 returns-in-Some-clause-ok c =
     let at = rw (c.as_slice.ensures.value, c.bytes.ensures) at c.in-Some.ensures.found in
     let files = c.self.inside.files.items in
-    let place = c.in-Some.place in (
-      bytes_under-set files c.args.name place c.args.bytes at,
+    let index = c.in-Some.index in (
+      bytes_under-set files c.args.name index c.args.bytes at,
       λ other differ.
-          bytes_under-set_other files c.args.name place c.args.bytes other at differ
+          bytes_under-set_other files c.args.name index c.args.bytes other at differ
           ∙ ap (λ kept. bytes_under kept other) c.self.view_is,
     )
 
