@@ -14,6 +14,7 @@ pub mod Panics
 pub mod Refusal
 pub mod Rows
 pub mod Stored
+pub mod Sure
 pub mod Text
 pub mod Token
 pub mod Tree

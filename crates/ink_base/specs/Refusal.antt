@@ -1,9 +1,46 @@
-use Rattle.std.specs.Prelude.{ℕ, List, [], ◌++◌, codes, Option, None, Some}
+use Rattle.std.specs.Prelude.{ℕ, Bool, ◌&&◌, ◌||◌, ◌==◌, nat_lt, List, [], ◌++◌, codes, Option, None, Some}
 use Rattle.std.specs.Fmt.{decimal}
 use Rattle.ink_base.specs.declared.refusal.Rule.{Rule}
 use Rattle.ink_base.specs.declared.refusal.Rule.TheVariants.{NotUtf8, BadToken, IntTooWide, UnendedText, Unexpected, TooDeep, SourceTooLong, UnknownName, DuplicateName, UnknownImport, NoMain, TypeArity, UniArgument, MissingMethod, WrongSignature, DuplicateImpl, BoundUnmet, AsyncNotSendable, WrongType, ArgumentCount, UnknownMember, NotMutable, NeedsAnnotation, JumpOutside, MissingArm, BadPattern, MovedUse, MoveOutOfBorrow, HiddenInRecover, BorrowOfUni, CrossingArgument, CrossingResult, RecoverResult, JumpOutOfRecover}
 use Rattle.ink_base.specs.declared.refusal.Place.{Place}
 use Rattle.ink_base.specs.declared.refusal.Refusal.{Refusal}
+
+-- the code of a rule, as a number
+abbrev pub rule_code : Rule → ℕ
+rule_code NotUtf8 = 1
+rule_code BadToken = 2
+rule_code IntTooWide = 3
+rule_code UnendedText = 4
+rule_code Unexpected = 5
+rule_code TooDeep = 6
+rule_code SourceTooLong = 7
+rule_code UnknownName = 10
+rule_code DuplicateName = 11
+rule_code UnknownImport = 12
+rule_code NoMain = 13
+rule_code TypeArity = 20
+rule_code UniArgument = 21
+rule_code MissingMethod = 22
+rule_code WrongSignature = 23
+rule_code DuplicateImpl = 24
+rule_code BoundUnmet = 25
+rule_code AsyncNotSendable = 26
+rule_code WrongType = 30
+rule_code ArgumentCount = 31
+rule_code UnknownMember = 32
+rule_code NotMutable = 33
+rule_code NeedsAnnotation = 34
+rule_code JumpOutside = 35
+rule_code MissingArm = 36
+rule_code BadPattern = 38
+rule_code MovedUse = 40
+rule_code MoveOutOfBorrow = 41
+rule_code HiddenInRecover = 50
+rule_code BorrowOfUni = 51
+rule_code CrossingArgument = 52
+rule_code CrossingResult = 53
+rule_code RecoverResult = 54
+rule_code JumpOutOfRecover = 55
 
 -- the code and the name of a rule
 abbrev pub rule_text : Rule → List ℕ
@@ -55,3 +92,10 @@ detail_text (Some detail) = codes ": " ++ detail
 abbrev pub refusal_text : Refusal → List ℕ
 refusal_text refusal =
     rule_text refusal.rule ++ codes " at " ++ place_text refusal.place ++ detail_text refusal.detail
+
+-- whether the first of two refusals of one phase is the one to tell: that at the lesser byte, and at one byte that
+-- with the lesser code
+abbrev pub is_before : Refusal → Refusal → Bool
+is_before a b =
+    nat_lt a.place.byte b.place.byte
+    || (a.place.byte == b.place.byte && nat_lt (rule_code a.rule) (rule_code b.rule))

@@ -1,6 +1,6 @@
 //! Refusals: the rule that a source breaks, and where.
 ghost use Rattle.std.specs.Prelude.{◌≡◌, IfOk, Some};
-ghost use Rattle.ink_base.specs.Refusal.{rule_text, refusal_text};
+ghost use Rattle.ink_base.specs.Refusal.{rule_code, rule_text, is_before, refusal_text};
 
 use crate::text::Text;
 use std::alloc::{AllocError, Global};
@@ -100,6 +100,50 @@ pub enum Rule {
     JumpOutOfRecover,
 }
 
+impl Rule {
+    /// The number of its code.
+    pub fn code(self) -> u8
+        ensures { result ≡ rule_code self }
+    {
+        match self {
+            Rule::NotUtf8 => 1,
+            Rule::BadToken => 2,
+            Rule::IntTooWide => 3,
+            Rule::UnendedText => 4,
+            Rule::Unexpected => 5,
+            Rule::TooDeep => 6,
+            Rule::SourceTooLong => 7,
+            Rule::UnknownName => 10,
+            Rule::DuplicateName => 11,
+            Rule::UnknownImport => 12,
+            Rule::NoMain => 13,
+            Rule::TypeArity => 20,
+            Rule::UniArgument => 21,
+            Rule::MissingMethod => 22,
+            Rule::WrongSignature => 23,
+            Rule::DuplicateImpl => 24,
+            Rule::BoundUnmet => 25,
+            Rule::AsyncNotSendable => 26,
+            Rule::WrongType => 30,
+            Rule::ArgumentCount => 31,
+            Rule::UnknownMember => 32,
+            Rule::NotMutable => 33,
+            Rule::NeedsAnnotation => 34,
+            Rule::JumpOutside => 35,
+            Rule::MissingArm => 36,
+            Rule::BadPattern => 38,
+            Rule::MovedUse => 40,
+            Rule::MoveOutOfBorrow => 41,
+            Rule::HiddenInRecover => 50,
+            Rule::BorrowOfUni => 51,
+            Rule::CrossingArgument => 52,
+            Rule::CrossingResult => 53,
+            Rule::RecoverResult => 54,
+            Rule::JumpOutOfRecover => 55,
+        }
+    }
+}
+
 impl fmt::Display for Rule {
     ghost output = { λ rule. Some (rule_text rule) };
 
@@ -166,6 +210,16 @@ impl Refusal {
             told.extend_from_slice(detail.bytes())?;
         }
         Ok(Text::from_bytes(told))
+    }
+
+    /// Whether this is told rather than the other, where one phase finds both: it stands at a lesser byte, or at the
+    /// same byte and its code is less.
+    pub fn is_before(&self, other: &Refusal) -> bool
+        ensures { result ≡ is_before self.now other.now }
+    {
+        let byte = self.place.byte;
+        let other_byte = other.place.byte;
+        byte < other_byte || (byte == other_byte && self.rule.code() < other.rule.code())
     }
 }
 
