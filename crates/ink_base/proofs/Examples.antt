@@ -5,9 +5,9 @@ use Rattle.ink_base.specs.declared.future.FutureState.{FutureState}
 use Rattle.ink_base.specs.declared.future.FutureState.TheVariants.{Open, Set}
 use Rattle.ink_base.specs.Actions.{Take, Print, Spawn, Send, NewFuture, BreakFuture, GetFuture, Panic, SharedState, opening, is_enabled, as_made, after_action}
 use Rattle.ink_base.specs.Ends.{Standing, Enabled, AtTake, AtGet, Spent, Endless, Rests, CheckedIn, RoundsMade, EntriesMade, EntryFails, Panicked, Waiting, Quiet, EventLimit, LocalLimit, RoundLimit, JournalEnds, BadEntry, end_of}
-use Rattle.ink_base.specs.Futures.{after_set, after_break, after_get, value_of}
+use Rattle.ink_base.specs.Futures.{after_set, after_break, after_get, after_value_back, value_of}
 use Rattle.ink_base.specs.Limits.{default_numbers}
-use Rattle.ink_base.specs.Messages.{Mail, empty_mailbox, front_of, unread_of, after_send, after_take}
+use Rattle.ink_base.specs.Messages.{Mail, empty_mailbox, front_of, unread_of, after_send, after_take, after_put_back}
 
 -- the limit of rounds comes before each other end but a panic
 rounds_first : (is_full : Bool) (processes : List Standing) → end_of None (RoundsMade 3) is_full processes ≡ Some (RoundLimit 3)
@@ -66,6 +66,11 @@ then_the_next : front_of (after_take two_sent 2) 2 ≡ Some (record { number = 2
 unfolding two_sent
 then_the_next = refl
 
+-- what was taken and comes back is the oldest again
+back_in_front : after_put_back (after_take two_sent 2) 2 (record { number = 1; sender = 1; method = 5; values = 10 }) ≡ two_sent
+unfolding two_sent
+back_in_front = refl
+
 -- a mailbox that was emptied goes on with its numbers
 numbers_go_on : unread_of (after_send (after_take (after_take two_sent 2) 2) 2 2 7 30) 2 ≡ record { number = 3; sender = 2; method = 7; values = 30 } ∷ []
 unfolding two_sent
@@ -79,6 +84,9 @@ set_once = refl
 
 taken_once : value_of (after_get (after_set made 4)) ≡ None
 taken_once = refl
+
+back_in_its_future : after_value_back (after_get (after_set made 4)) 4 ≡ Set 4
+back_in_its_future = refl
 
 set_is_not_broken : after_break (after_set made 4) ≡ Set 4
 set_is_not_broken = refl

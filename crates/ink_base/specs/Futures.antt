@@ -28,6 +28,13 @@ after_get (Set had) = Taken
 after_get Broken = Broken
 after_get Taken = Taken
 
+-- what a value that was got and comes back leaves of a future: one that was taken has it again, any other stays
+abbrev pub after_value_back : {V : Type 0} → FutureState V → V → FutureState V
+after_value_back Open value = Open
+after_value_back (Set had) value = Set had
+after_value_back Broken value = Broken
+after_value_back Taken value = Set value
+
 -- the value that a get gives: only one that was set and not taken
 abbrev pub value_of : {V : Type 0} → FutureState V → Option V
 value_of Open = None

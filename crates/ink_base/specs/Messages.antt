@@ -66,3 +66,11 @@ take_from_box (Some box) mail process = set_numbered mail process (record box { 
 -- the mail after a process took its front message
 abbrev pub after_take : {V : Type 0} → Mail V → ℕ → Mail V
 after_take mail process = take_from_box (numbered mail process) mail process
+
+abbrev pub put_in_box : {V : Type 0} → Option (Mailbox V) → Mail V → ℕ → Message V → Mail V
+put_in_box None mail process message = mail
+put_in_box (Some box) mail process message = set_numbered mail process (record box { unread = message ∷ box.unread })
+
+-- the mail after a message that a process took came back, in front of the others
+abbrev pub after_put_back : {V : Type 0} → Mail V → ℕ → Message V → Mail V
+after_put_back mail process message = put_in_box (numbered mail process) mail process message
