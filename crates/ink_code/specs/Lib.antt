@@ -12,6 +12,7 @@ pub mod Objects
 pub mod OptionRows
 pub mod Prims
 pub mod Process
+pub mod Readings
 pub mod Replies
 pub mod Rounds
 pub mod Rows
