@@ -14,6 +14,7 @@ pub mod Objects
 pub mod OptionRows
 pub mod Prims
 pub mod Process
+pub mod Readings
 pub mod Replies
 pub mod Rounds
 pub mod RowNumbers

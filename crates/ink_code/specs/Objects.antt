@@ -1,5 +1,5 @@
 -- What is read of the objects of a process, and what borrows do to them.
-use Rattle.std.specs.Prelude.{ℕ, ◌+◌, ◌-◌, nat_lt, if◌then◌else◌, Option, None, Some, Result, Ok, Err, List, slice_get, slice_set}
+use Rattle.std.specs.Prelude.{ℕ, nat_lt, if◌then◌else◌, Option, None, Some, Result, Ok, Err, List, slice_get}
 use Rattle.std.specs.FinMap.{get, insert}
 use Rattle.ink_base.specs.declared.ident.ObjectId.{ObjectId}
 use Rattle.ink_base.specs.declared.value.Value.{Value}

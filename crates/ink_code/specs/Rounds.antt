@@ -10,7 +10,7 @@ use Rattle.ink_base.specs.Numbered.{numbered, set_numbered}
 use Rattle.ink_code.specs.declared.code.Code.{Code}
 use Rattle.ink_code.specs.Machine.{Stepped, Went, Wants, Panics, Spent, Outcome}
 use Rattle.ink_code.specs.Process.{Process}
-use Rattle.ink_code.specs.Runs.{World, opening_world, after_made}
+use Rattle.ink_code.specs.Runs.{World, opening_world, process_after, after_made}
 use Rattle.ink_code.specs.Slice.{slice_of}
 use Rattle.ink_code.specs.Trees.{Parcel}
 
@@ -82,15 +82,24 @@ abbrev pub status_after : Option End → Status
 status_after None = Ready
 status_after (Some end) = Stopped
 
--- a run after an action that a process made
-abbrev pub acted : Code → Action Parcel → ℕ → Process → RoundState → RoundState
-acted code made number p state =
+-- a run with a process that stays where it was and makes no further slice: its instruction is wrong, or its reply
+-- can't be put
+abbrev pub stopped_at : ℕ → RoundState → RoundState
+stopped_at number state = record state { statuses = set_numbered state.statuses number Stopped }
+
+-- a run after an action that a process made, which left the process so
+abbrev pub acted : Action Parcel → ℕ → Option Process → RoundState → RoundState
+acted made number None state = stopped_at number state
+acted made number (Some left) state =
     record {
-      world = after_made code made number p state.world;
+      world = after_made made number left state.world;
       statuses = woken made (set_numbered state.statuses number (status_after (end_by made number)));
       journal = state.journal ++ number ∷ [];
       ended = end_by made number;
     }
+
+abbrev pub made_by : Code → Action Parcel → ℕ → Process → RoundState → RoundState
+made_by code made number p state = acted made number (process_after code made number state.world.shared p) state
 
 -- how a process waits for an action that can't be made now
 abbrev pub waits_at : Action Parcel → Status
@@ -103,7 +112,7 @@ acts code limits wish number p state =
     if is_enabled wish number state.world.shared
     then (if nat_le (limit_of limit.Events limits) (length state.journal)
     then ends_with (EventLimit number) number p state
-    else acted code (as_made wish state.world.shared limits) number p state)
+    else made_by code (as_made wish state.world.shared limits) number p state)
     else back_in number p (waits_at wish) state
 
 -- what a slice came to is done, while the run goes on
@@ -119,7 +128,7 @@ unless_ended (Some end) ended further = ended
 
 -- the check-in of a process: after an end it only comes back, and one with a wrong instruction stays where it was
 unfoldable pub checked_in : Code → List ℕ → ℕ → Outcome → RoundState → RoundState
-checked_in code limits number (Err why) state = record state { statuses = set_numbered state.statuses number Stopped }
+checked_in code limits number (Err why) state = stopped_at number state
 checked_in code limits number (Ok (stepped, p)) state =
     unless_ended state.ended (back_in number p Stopped state) (comes_back code limits stepped number p state)
 

@@ -1,5 +1,5 @@
 -- Runs of a code: its processes and what they share, their turns, the replay of a journal, and what is ahead of it.
-use Rattle.std.specs.Prelude.{◌≡◌, ℕ, ◌+◌, true, Option, None, Some, Result, Ok, Err, List, [], ◌∷◌, ◌++◌, length}
+use Rattle.std.specs.Prelude.{◌≡◌, ℕ, ◌+◌, true, Option, None, Some, IsSome, IsSomeAnd, Result, Ok, Err, List, [], ◌∷◌, ◌++◌, length, slice_get}
 use Rattle.std.specs.FinMap.{insert, empty}
 use Rattle.ink_base.specs.Actions.{Action, SharedState, opening, is_enabled, as_made, after_action}
 use Rattle.ink_base.specs.Actions as action
@@ -49,7 +49,7 @@ abbrev pub held_by : Option (FutureState Parcel) → Option Parcel
 held_by None = None
 held_by (Some state) = value_of state
 
--- what comes back of an action that a process makes: nothing of a panic
+-- what comes back of an action that a process makes: nothing of a panic, and nothing where there is no message or value
 unfoldable pub reply_of : Action Parcel → ℕ → SharedState Parcel → Option Reply
 reply_of action.Take process shared = taken (front_of shared.mail process)
 reply_of (action.Print text) process shared = Some Done
@@ -61,14 +61,19 @@ reply_of (action.BreakFuture future) process shared = Some Done
 reply_of (action.GetFuture future) process shared = got (held_by (numbered shared.futures future))
 reply_of (action.Panic text) process shared = None
 
-abbrev pub else_same : Result Process Wrong → Process → Process
-else_same (Err why) p = p
-else_same (Ok q) p = q
+abbrev pub where_right : Result Process Wrong → Option Process
+where_right (Err why) = None
+where_right (Ok p) = Some p
 
--- a process after the reply to its action, where there is one
-abbrev pub after_reply : Code → Option Reply → Process → Process
-after_reply code None p = p
-after_reply code (Some reply) p = else_same (answered code reply p) p
+-- a process after the reply to its action, where there is one and it can be put
+abbrev pub with_reply : Code → Option Reply → Process → Option Process
+with_reply code None p = None
+with_reply code (Some reply) p = where_right (answered code reply p)
+
+-- a process as an action that it made leaves it. A panic gets no reply; as after each action, its steps are counted anew
+unfoldable pub process_after : Code → Action Parcel → ℕ → SharedState Parcel → Process → Option Process
+process_after code (action.Panic text) process shared p = Some (record p { ran = 0 })
+process_after code made process shared p = with_reply code (reply_of made process shared) p
 
 -- the processes after an action: a spawn makes one more
 abbrev pub with_started : Action Parcel → List Process → List Process
@@ -79,40 +84,42 @@ abbrev pub panic_by : Action Parcel → ℕ → Option (ℕ × List ℕ)
 panic_by (action.Panic text) process = Some (process, text)
 panic_by other process = None
 
--- a run after a process made an action for which it waited
-unfoldable pub after_made : Code → Action Parcel → ℕ → Process → World → World
-after_made code made process waiting world =
+-- a run after an action of a process, which left the process so
+unfoldable pub after_made : Action Parcel → ℕ → Process → World → World
+after_made made process left world =
     record {
-      processes = with_started made (set_numbered world.processes process (after_reply code (reply_of made process world.shared) waiting));
+      processes = with_started made (set_numbered world.processes process left);
       shared = after_action made process world.shared;
       panic = panic_by made process;
     }
 
--- a turn of a process: it comes to an action that can be made, and makes it, or panics in its place
+-- the action to which a process of a run comes by steps of its own, and the process as it waits for it. Whether a
+-- panic was made is not asked
+pub record Next (code : Code) (limits : List ℕ) (world : World) (process : ℕ) (wish : Action Parcel) (waiting : Process) : Type 0 where
+  pub p : Process
+  pub stands : numbered world.processes process ≡ Some p
+  pub comes : ComesTo code limits p wish waiting
+
+-- a turn of a process, in a run without a panic: it comes to an action that can be made, and makes it, or panics in its
+-- place. Where its reply can't be put there is no turn
 pub record CodeTurn (code : Code) (limits : List ℕ) (process : ℕ) (old new : World) : Type 0 where
   pub runs : old.panic ≡ None
-  pub p : Process
-  pub stands : numbered old.processes process ≡ Some p
   pub wish : Action Parcel
   pub waiting : Process
-  pub comes : ComesTo code limits p wish waiting
+  pub next : Next code limits old process wish waiting
   pub enabled : is_enabled wish process old.shared ≡ true
-  pub after : new ≡ after_made code (as_made wish old.shared limits) process waiting old
+  pub left : Process
+  pub replied : process_after code (as_made wish old.shared limits) process old.shared waiting ≡ Some left
+  pub after : new ≡ after_made (as_made wish old.shared limits) process left old
 
 -- the run after the turns of a journal, in its order
 pub data CodeReplay (code : Code) (limits : List ℕ) : List ℕ → World → Type 0 where
   begins : CodeReplay code limits [] (opening_world code)
   turns : (journal : List ℕ) (process : ℕ) (old new : World) → CodeReplay code limits journal old → CodeTurn code limits process old new → CodeReplay code limits (journal ++ process ∷ []) new
 
--- the action to which a process comes after the turns of a journal
-pub record CodeNext (code : Code) (limits : List ℕ) (journal : List ℕ) (process : ℕ) (wish : Action Parcel) : Type 0 where
-  pub world : World
-  pub replay : CodeReplay code limits journal world
-  pub runs : world.panic ≡ None
-  pub p : Process
-  pub stands : numbered world.processes process ≡ Some p
-  pub waiting : Process
-  pub comes : ComesTo code limits p wish waiting
+-- the process made the panic that ended the run
+abbrev pub HasPanicked : World → ℕ → Type 0
+HasPanicked world process = IsSomeAnd world.panic (λ panic. panic.0 ≡ process)
 
 -- each of the processes, numbered from the first one on, made so many steps of its own
 abbrev pub AreAhead : Code → List ℕ → (ℕ → ℕ) → ℕ → List Process → List Process → Type 0
@@ -122,15 +129,18 @@ AreAhead code limits steps first (p ∷ others) [] = ⊥
 AreAhead code limits steps first (p ∷ ps) (q ∷ qs) =
     (steps_on (steps first) code limits p ≡ Some q) × AreAhead code limits steps (first + 1) ps qs
 
--- the run after the turns of a journal and so many further steps of each process, none of which comes to an action
+-- the run after the turns of a journal and so many further steps of each process, none of which comes to an action; a
+-- process that made a panic makes no step
 pub record CodeAhead (code : Code) (limits : List ℕ) (journal : List ℕ) (steps : ℕ → ℕ) (world : World) : Type 0 where
   pub turned : World
   pub replay : CodeReplay code limits journal turned
   pub ahead : AreAhead code limits steps 1 turned.processes world.processes
+  pub stays : (process : ℕ) → HasPanicked turned process → steps process ≡ 0
   pub shared : world.shared ≡ turned.shared
   pub panic : world.panic ≡ turned.panic
 
--- in no run of the code a process comes to a wrong instruction
-abbrev pub IsSafe : Code → List ℕ → Type 0
-IsSafe code limits =
-    (journal : List ℕ) (steps : ℕ → ℕ) (world : World) → CodeAhead code limits journal steps world → (process : ℕ) (p : Process) → numbered world.processes process ≡ Some p → (why : Wrong) → ¬ (free_step code limits p.pending p ≡ Err why)
+-- the code has its main method, and in no run of it a process comes to a wrong instruction. Of a process that made a
+-- panic nothing is said: the values that it was to send may be gone
+pub record IsSafe (code : Code) (limits : List ℕ) : Type 0 where
+  pub main : IsSome (slice_get code.methods code.main)
+  pub right : (journal : List ℕ) (steps : ℕ → ℕ) (world : World) → CodeAhead code limits journal steps world → (process : ℕ) (p : Process) → numbered world.processes process ≡ Some p → ¬ HasPanicked world process → (why : Wrong) → ¬ (free_step code limits p.pending p ≡ Err why)
