@@ -11,11 +11,10 @@ ghost use Rattle.ink_proc.specs.State.{state_of};
 use crate::reply::{AnswerFault, Reply};
 use ink_base::{ObjectId, Value};
 use ink_code::{Code, Frame, Wrong};
-use ink_heap::Heap;
+use ink_heap::MOST_BORROWS;
 use ink_parcel::{Parcel, join};
 use ink_proc::{Frames, Proc};
 use std::alloc::{AllocError, Global};
-use std::mem;
 
 /// Room for the first frame of a process, and for so many values in its registers.
 fn rooms(alloc: Global, registers: u32, values: u64) -> Result<(Vec<Frame>, Vec<Value>), AllocError>
@@ -53,7 +52,7 @@ pub(crate) fn take_message(
     match proc.heap.count(&state) {
         None => return Err(AnswerFault::Wrong(Wrong::Object)),
         Some(count) => {
-            if count >= 1 << 62 {
+            if count >= MOST_BORROWS {
                 return Err(AnswerFault::OutOfMemory(Reply::Message { method, parcel }));
             }
         }

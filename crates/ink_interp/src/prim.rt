@@ -9,6 +9,7 @@ ghost use Rattle.ink_proc.specs.State.{state_of};
 ghost use Rattle.ink_steps.specs.Answers.{IsStep, MayStep};
 
 use ink_base::{Items, Limits, Value};
+use ink_code::row_numbers::{FIRST_OF_ARRAY, FIRST_OF_OPTION};
 use ink_code::{Code, Wrong};
 use ink_object_rows::{array_row, option_row};
 use ink_proc::Proc;
@@ -30,9 +31,9 @@ fn row_of(
     ensures answer { RowAnswers (row_step code.now limits.now row values.old (state_of proc.old)) result (state_of proc.old) (state_of proc.new) values.old values.new }
     ensures ran { proc.new.ran ≡ proc.old.ran }
 {
-    if row < 29 {
+    if row < FIRST_OF_ARRAY {
         value_row(alloc, limits, row, values)
-    } else if row < 38 {
+    } else if row < FIRST_OF_OPTION {
         array_row(alloc, proc, limits, row, values)
     } else {
         option_row(alloc, proc, code, limits, row, values)
