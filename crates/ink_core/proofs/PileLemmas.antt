@@ -1,10 +1,11 @@
 -- Lists of nodes, of numbers and of parts that grow at their ends.
-use Rattle.std.proofs.Common.{◌≡◌, ℕ, ◌+◌, ◌<◌, ◌≤◌, List, [], ◌∷◌, ◌++◌, length, map, reverse, get_or, nat_lt, refl, sym, ap, subst, ◌∙◌, arith, length-append, All}
+use Rattle.std.proofs.Common.{◌≡◌, ℕ, Bool, true, false, if◌then◌else◌, ◌+◌, ◌<◌, ◌≤◌, List, [], ◌∷◌, ◌++◌, length, map, reverse, get_or, nat_lt, refl, sym, ap, subst, ◌∙◌, arith, length-append, All}
 use Rattle.std.proofs.lemmas.Bool.{ltb-true, ltb-false}
 use Rattle.ink_grammar.proofs.Bools.{by_cases}
 use Rattle.std.proofs.lemmas.List.{reverse-append, map-append, get_or_past, get_or_append_left, get_or_push}
-use Rattle.std.proofs.lemmas.List.Elements.{recursion_from_All}
+use Rattle.std.proofs.lemmas.List.Elements.{recursion_from_All, All-push}
 use Rattle.std.specs.List.{AllByRecursion}
+use Rattle.ink_core.specs.declared.form.TheConstants.{NO_NODE}
 use Rattle.ink_core.specs.declared.form.Form.{Form}
 use Rattle.ink_core.specs.declared.part.Part.{Part}
 use Rattle.ink_core.specs.declared.part.Part.TheVariants as part
@@ -41,21 +42,21 @@ taken_none : (fs : List Core) → cores_of fs [] ≡ []
 unfolding cores_of
 taken_none fs = refl
 
-same_at : (fs : List Core) (c : Core) (k : ℕ) → length fs < 4294967295 → Stands (length fs) k → at (fs ++ c ∷ []) k ≡ at fs k
+same_at : (fs : List Core) (c : Core) (k : ℕ) → length fs < NO_NODE → Stands (length fs) k → at (fs ++ c ∷ []) k ≡ at fs k
 same_at fs c k few stands = by_cases (nat_lt k (length fs))
     (λ e. let l : k < length fs = ltb-true k (length fs) e in get_or_append_left fs (c ∷ []) Missing k l)
-    (λ e. let m : k ≡ 4294967295 = stands (ltb-false k (length fs) e) in get_or_past (fs ++ c ∷ []) k Missing (omega (arith, length-append fs (c ∷ []), m)) ∙ sym (get_or_past fs k Missing (omega (arith, m))))
+    (λ e. let m : k ≡ NO_NODE = stands (ltb-false k (length fs) e) in get_or_past (fs ++ c ∷ []) k Missing (omega (arith, length-append fs (c ∷ []), m)) ∙ sym (get_or_past fs k Missing (omega (arith, m))))
 
-map_more : (fs : List Core) (c : Core) (ks : List ℕ) → length fs < 4294967295 → AllByRecursion (λ (k : ℕ). Stands (length fs) k) ks → map (λ i. at (fs ++ c ∷ []) i) ks ≡ map (λ i. at fs i) ks
+map_more : (fs : List Core) (c : Core) (ks : List ℕ) → length fs < NO_NODE → AllByRecursion (λ (k : ℕ). Stands (length fs) k) ks → map (λ i. at (fs ++ c ∷ []) i) ks ≡ map (λ i. at fs i) ks
 map_more fs c [] few h = refl
 map_more fs c (k ∷ ks) few h =
     ap (λ y. y ∷ map (λ i. at (fs ++ c ∷ []) i) ks) (same_at fs c k few h.0) ∙ ap (λ y. at fs k ∷ y) (map_more fs c ks few h.1)
 
-taken_more : (fs : List Core) (c : Core) (ks : List ℕ) → length fs < 4294967295 → All (λ (k : ℕ). Stands (length fs) k) ks → cores_of (fs ++ c ∷ []) ks ≡ cores_of fs ks
+taken_more : (fs : List Core) (c : Core) (ks : List ℕ) → length fs < NO_NODE → All (λ (k : ℕ). Stands (length fs) k) ks → cores_of (fs ++ c ∷ []) ks ≡ cores_of fs ks
 unfolding cores_of
 taken_more fs c ks few h = ap reverse (map_more fs c ks few (recursion_from_All (λ (k : ℕ). Stands (length fs) k) ks h))
 
-sight_more : (fs : List Core) (c : Core) (p : Part) → length fs < 4294967295 → PartStands (length fs) p → sight_of (fs ++ c ∷ []) p ≡ sight_of fs p
+sight_more : (fs : List Core) (c : Core) (p : Part) → length fs < NO_NODE → PartStands (length fs) p → sight_of (fs ++ c ∷ []) p ≡ sight_of fs p
 sight_more fs c part.Nothing few h = refl
 sight_more fs c (part.Leaf token) few h = refl
 sight_more fs c (part.Constant start token made) few h = refl
@@ -70,12 +71,12 @@ sight_more fs c (part.Body opening closing before start value) few h =
     ap (λ (y : Core). record { core = Block opening closing (More y (Statement start (at (fs ++ c ∷ []) value))); label = label.Body }) (same_at fs c before few h.1)
     ∙ ap (λ (y : Core). record { core = Block opening closing (More (at fs before) (Statement start y)); label = label.Body }) (same_at fs c value few h.0)
 
-map_sights : (fs : List Core) (c : Core) (ps : List Part) → length fs < 4294967295 → AllByRecursion (λ (p : Part). PartStands (length fs) p) ps → map (sight_of (fs ++ c ∷ [])) ps ≡ map (sight_of fs) ps
+map_sights : (fs : List Core) (c : Core) (ps : List Part) → length fs < NO_NODE → AllByRecursion (λ (p : Part). PartStands (length fs) p) ps → map (sight_of (fs ++ c ∷ [])) ps ≡ map (sight_of fs) ps
 map_sights fs c [] few h = refl
 map_sights fs c (p ∷ ps) few h =
     ap (λ y. y ∷ map (sight_of (fs ++ c ∷ [])) ps) (sight_more fs c p few h.0) ∙ ap (λ y. sight_of fs p ∷ y) (map_sights fs c ps few h.1)
 
-sights_more : (fs : List Core) (c : Core) (ps : List Part) → length fs < 4294967295 → All (λ (p : Part). PartStands (length fs) p) ps → sights_of (fs ++ c ∷ []) ps ≡ sights_of fs ps
+sights_more : (fs : List Core) (c : Core) (ps : List Part) → length fs < NO_NODE → All (λ (p : Part). PartStands (length fs) p) ps → sights_of (fs ++ c ∷ []) ps ≡ sights_of fs ps
 unfolding sights_of
 sights_more fs c ps few h = map_sights fs c ps few (recursion_from_All (λ (p : Part). PartStands (length fs) p) ps h)
 
@@ -86,15 +87,15 @@ none_known fs ps e = ap (map (sight_of fs)) e
 pub none_taken : (fs : List Core) (ks : List ℕ) → ks ≡ [] → cores_of fs ks ≡ []
 none_taken fs ks e = ap (λ y. cores_of fs y) e ∙ taken_none fs
 
-pub none_missing : (ns : List Form) → length ns ≤ 4294967295 → at (cores ns) 4294967295 ≡ Missing
-none_missing ns h = get_or_past (cores ns) 4294967295 Missing (omega (arith, cores_length ns))
+pub none_missing : (ns : List Form) → length ns ≤ NO_NODE → at (cores ns) NO_NODE ≡ Missing
+none_missing ns h = get_or_past (cores ns) NO_NODE Missing (omega (arith, cores_length ns))
 
 -- nothing on top
-pub nothing_pushed : (ns : List Form) (xs ys : List Core) → length ns ≤ 4294967295 → ys ≡ at (cores ns) 4294967295 ∷ xs → ys ≡ Missing ∷ xs
+pub nothing_pushed : (ns : List Form) (xs ys : List Core) → length ns ≤ NO_NODE → ys ≡ at (cores ns) NO_NODE ∷ xs → ys ≡ Missing ∷ xs
 nothing_pushed ns xs ys h e = e ∙ ap (λ y. y ∷ xs) (none_missing ns h)
 
 -- a new node on top
-pub node_pushed : (ns ns' : List Form) (ks ks' : List ℕ) (x : Form) (k : ℕ) → All (Stands (length ns)) ks → k ≡ length ns → k < 4294967295 → ns' ≡ ns ++ x ∷ [] → ks' ≡ ks ++ k ∷ [] →
+pub node_pushed : (ns ns' : List Form) (ks ks' : List ℕ) (x : Form) (k : ℕ) → All (Stands (length ns)) ks → k ≡ length ns → k < NO_NODE → ns' ≡ ns ++ x ∷ [] → ks' ≡ ks ++ k ∷ [] →
     cores_of (cores ns') ks' ≡ grow (cores ns) x ∷ cores_of (cores ns) ks
 node_pushed ns ns' ks ks' x k h m few e f =
     let c = grow (cores ns) x in
@@ -106,7 +107,7 @@ node_pushed ns ns' ks ks' x k h m few e f =
     ∙ ap (λ y. c ∷ y) (taken_more (cores ns) c ks (omega (arith, cores_length ns)) g)
 
 -- a new node changes nothing of what is known
-pub known_stays : (ns ns' : List Form) (ps : List Part) (x : Form) → All (PartStands (length ns)) ps → length ns < 4294967295 → ns' ≡ ns ++ x ∷ [] →
+pub known_stays : (ns ns' : List Form) (ps : List Part) (x : Form) → All (PartStands (length ns)) ps → length ns < NO_NODE → ns' ≡ ns ++ x ∷ [] →
     sights_of (cores ns') ps ≡ sights_of (cores ns) ps
 known_stays ns ns' ps x h few e =
     let g = subst (λ n. All (λ (p : Part). PartStands n p) ps) (sym (cores_length ns)) h in
@@ -139,7 +140,7 @@ module _ (ns : List Form) (ks ks' : List ℕ) (e : ks ≡ ks' ++ []) (none : len
   same_numbers : cores_of (cores ns) ks' ≡ []
   same_numbers = ap (λ y. cores_of (cores ns) y) (empty ks' (omega (arith, length-append ks' [], ap length e))) ∙ taken_none (cores ns)
 
-  pub unpopped_top : length ns ≤ 4294967295 → at (cores ns) 4294967295 ≡ top (cores_of (cores ns) ks)
+  pub unpopped_top : length ns ≤ NO_NODE → at (cores ns) NO_NODE ≡ top (cores_of (cores ns) ks)
   unpopped_top h = none_missing ns h ∙ sym (ap top no_numbers)
 
   pub unpopped_rest : cores_of (cores ns) ks' ≡ rest (cores_of (cores ns) ks)
@@ -160,5 +161,11 @@ pub no_part_found : (fs : List Core) (ps : List Part) (k : ℕ) → length ps �
 unfolding sights_of
 no_part_found fs ps k past = ap (sight_of fs) (sym (get_or_past ps k part.Nothing past)) ∙ sym (get_or-map (sight_of fs) ps k part.Nothing)
 
-pub nothing_stands : (count : ℕ) → count ≤ 4294967295 → PartStands count part.Nothing
+pub nothing_stands : (count : ℕ) → count ≤ NO_NODE → PartStands count part.Nothing
 nothing_stands count few = (λ h. refl, λ h. refl)
+
+-- a part that is kept, if there is memory, stands as the others do
+pub parts_kept : (count : ℕ) (ps ps' : List Part) (p : Part) (done : Bool) → ps' ≡ (if done then ps ++ p ∷ [] else ps)
+    → All (PartStands count) ps → PartStands count p → All (PartStands count) ps'
+parts_kept count ps ps' p true is all stands = subst (All (PartStands count)) (sym is) (All-push (PartStands count) ps p all stands)
+parts_kept count ps ps' p false is all stands = subst (All (PartStands count)) (sym is) all

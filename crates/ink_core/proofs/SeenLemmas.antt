@@ -3,6 +3,7 @@ use Rattle.std.proofs.Common.{◌≡◌, ℕ, zero, suc, ◌+◌, ◌<◌, ◌�
 use Rattle.std.proofs.lemmas.Bool.{ltb-true, ltb-false}
 use Rattle.std.proofs.lemmas.List.{get_or_past, get_or_append_left, get_or_push}
 use Rattle.ink_grammar.proofs.Bools.{by_cases}
+use Rattle.ink_core.specs.declared.form.TheConstants.{NO_NODE}
 use Rattle.ink_core.specs.declared.form.Form.{Form}
 use Rattle.ink_core.specs.declared.form.Form.TheVariants as n
 use Rattle.ink_core.specs.declared.part.Looked.{Looked}
@@ -14,10 +15,10 @@ use Rattle.ink_core.specs.Seen.{child_before, seen_of}
 use Rattle.ink_core.specs.Texts.{Sees, before_seen, item_seen}
 
 child_here : (c k : ℕ) → nat_lt c k ≡ true → child_before c k ≡ c
-child_here c k e = ap (λ t. if t then c else 4294967295) e
+child_here c k e = ap (λ t. if t then c else NO_NODE) e
 
-child_gone : (c k : ℕ) → nat_lt c k ≡ false → child_before c k ≡ 4294967295
-child_gone c k e = ap (λ t. if t then c else 4294967295) e
+child_gone : (c k : ℕ) → nat_lt c k ≡ false → child_before c k ≡ NO_NODE
+child_gone c k e = ap (λ t. if t then c else NO_NODE) e
 
 -- a node of this number, between those before and behind it
 split : (ns : List Form) (k : ℕ) (d : Form) → k < length ns → (b : List Form) × (a : List Form) × (ns ≡ b ++ get_or ns k d ∷ a) × (length b ≡ k)
@@ -43,7 +44,7 @@ pub core_past : (ns : List Form) (k : ℕ) → length ns ≤ k → at (cores ns)
 unfolding cores
 core_past ns k h = get_or_past (onto [] ns) k Missing (omega (arith, onto_length [] ns))
 
-module _ (b a : List Form) (x : Form) (k : ℕ) (l : length b ≡ k) (few : length b + length (x ∷ a) ≤ 4294967295) where
+module _ (b a : List Form) (x : Form) (k : ℕ) (l : length b ≡ k) (few : length b + length (x ∷ a) ≤ NO_NODE) where
   abbrev before : List Core
   before = onto [] b
 
@@ -71,7 +72,7 @@ module _ (b a : List Form) (x : Form) (k : ℕ) (l : length b ≡ k) (few : leng
       ∙ ap (λ i. at whole i) (sym (child_here c k e)))
       (λ e. let h : k ≤ c = ltb-false c k e in
       get_or_past before c Missing (omega (arith, before_length))
-      ∙ sym (get_or_past whole 4294967295 Missing (omega (arith, whole_length)))
+      ∙ sym (get_or_past whole NO_NODE Missing (omega (arith, whole_length)))
       ∙ ap (λ i. at whole i) (sym (child_gone c k e)))
 
   pub sees_grown : (y : Form) → Sees whole (grow before y) (seen_of y k)
@@ -127,7 +128,7 @@ module _ (b a : List Form) (x : Form) (k : ℕ) (l : length b ≡ k) (few : leng
   pub sees_node : Sees whole (at whole k) (seen_of x k)
   sees_node = subst (λ c. Sees whole c (seen_of x k)) (sym core_at) (sees_grown x)
 
-pub node_seen : (ns : List Form) (k : ℕ) (d : Form) → k < length ns → length ns ≤ 4294967295 → Sees (cores ns) (at (cores ns) k) (seen_of (get_or ns k d) k)
+pub node_seen : (ns : List Form) (k : ℕ) (d : Form) → k < length ns → length ns ≤ NO_NODE → Sees (cores ns) (at (cores ns) k) (seen_of (get_or ns k d) k)
 node_seen ns k d h few =
     let parts = split ns k d h in
     let size : length ns ≡ length parts.0 + length (get_or ns k d ∷ parts.1) = ap length parts.2 ∙ length-append parts.0 (get_or ns k d ∷ parts.1) in
@@ -143,9 +144,9 @@ child_stands count c k h = by_cases (nat_lt c k)
     (λ e. let l : c < k = ltb-true c k e in
     let is : child_before c k ≡ c = child_here c k e in
     (λ m. let bad : ⊥ = omega arith in absurd bad, λ m. let bad : ⊥ = omega arith in absurd bad))
-    (λ e. let is : child_before c k ≡ 4294967295 = child_gone c k e in (λ m. is, λ m. is))
+    (λ e. let is : child_before c k ≡ NO_NODE = child_gone c k e in (λ m. is, λ m. is))
 
-nothing_stands : (count : ℕ) → Stands count 4294967295
+nothing_stands : (count : ℕ) → Stands count NO_NODE
 nothing_stands count m = refl
 
 pub before_stands : (x : Form) (count k : ℕ) → k < count → Stands count (before_seen (seen_of x k)) × Stands k (before_seen (seen_of x k))
@@ -249,7 +250,7 @@ item_stands (n.Implementation start name of_trait methods) count k h = λ m. ref
 item_stands (n.TypeDeclaration start form words name type_parameters members) count k h = λ m. refl
 
 -- the answer of a look at a node that is there
-pub sees_looked : (ns : List Form) (k : ℕ) (x : Form) (l : Looked) → k < length ns → length ns ≤ 4294967295 → x ≡ get_or ns k x → l ≡ seen_of x k →
+pub sees_looked : (ns : List Form) (k : ℕ) (x : Form) (l : Looked) → k < length ns → length ns ≤ NO_NODE → x ≡ get_or ns k x → l ≡ seen_of x k →
     Sees (cores ns) (at (cores ns) k) l
 sees_looked ns k x l h few is looked =
     subst (λ m. Sees (cores ns) (at (cores ns) k) m) (sym (looked ∙ ap (λ y. seen_of y k) is)) (node_seen ns k x h few)

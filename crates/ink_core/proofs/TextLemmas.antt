@@ -2,6 +2,7 @@
 use Rattle.std.proofs.Common.{◌≡◌, ℕ, zero, suc, ◌+◌, ◌-◌, ◌<◌, ◌≤◌, nat_eq, nat_lt, List, [], ◌∷◌, ◌++◌, length, if◌then◌else◌, refl, sym, ap, ◌∙◌, arith}
 use Rattle.std.proofs.lemmas.Bool.{ltb-true, ltb-false, eqb-true, eqb-false}
 use Rattle.ink_grammar.proofs.Bools.{by_cases}
+use Rattle.ink_core.specs.declared.form.TheConstants.{NO_NODE}
 use Rattle.ink_core.specs.Core.{Core}
 use Rattle.ink_core.specs.Parts.{Stands}
 use Rattle.ink_core.specs.Pile.{top, rest}
@@ -9,7 +10,7 @@ use Rattle.ink_core.specs.Texts.{items_of, piece, joined, first_piece, text_from
 
 -- how far a walk from the node of this number may go
 abbrev pub distance : ℕ → ℕ
-distance number = if nat_eq number 4294967295 then 0 else number + 1
+distance number = if nat_eq number NO_NODE then 0 else number + 1
 
 -- the joins of one more are the joins of the first joined
 shift : (quote k : ℕ) (pile : List Core) → join_times quote (suc k) pile ≡ join_times quote k (join quote pile)
@@ -22,15 +23,15 @@ from_left quote before [] base = refl
 from_left quote before (item ∷ items) base =
     shift quote (length items) (before ∷ (item ∷ items ++ base)) ∙ from_left quote (joined quote before (piece quote item)) items base
 
-far : (number : ℕ) → (number ≡ 4294967295 → ⊥) → distance number ≡ number + 1
-far number not = by_cases (nat_eq number 4294967295)
-    (λ e. absurd (not (eqb-true number 4294967295 e)))
+far : (number : ℕ) → (number ≡ NO_NODE → ⊥) → distance number ≡ number + 1
+far number not = by_cases (nat_eq number NO_NODE)
+    (λ e. absurd (not (eqb-true number NO_NODE e)))
     (λ e. ap (λ t. if t then 0 else number + 1) e)
 
-near : (number : ℕ) → number ≡ 4294967295 → distance number ≡ 0
+near : (number : ℕ) → number ≡ NO_NODE → distance number ≡ 0
 near number is = ap distance is
 
-below : (left before : ℕ) → Stands left before → (before ≡ 4294967295 → ⊥) → before < left
+below : (left before : ℕ) → Stands left before → (before ≡ NO_NODE → ⊥) → before < left
 below left before stands not = by_cases (nat_lt before left) (λ e. ltb-true before left e) (λ e. absurd (not (stands (ltb-false before left e))))
 
 empty : (xs : List Core) → length xs ≡ 0 → xs ≡ []
@@ -38,10 +39,10 @@ empty [] h = refl
 empty (x ∷ xs) h = let bad : ⊥ = omega arith in absurd bad
 
 -- a child is nearer to the end of the walk
-pub smaller : (left before : ℕ) → Stands left before → (left ≡ 4294967295 → ⊥) → distance before < distance left
-smaller left before stands there = by_cases (nat_eq before 4294967295)
-    (λ e. omega (arith, near before (eqb-true before 4294967295 e), far left there))
-    (λ e. let not : before ≡ 4294967295 → ⊥ = eqb-false before 4294967295 e in
+pub smaller : (left before : ℕ) → Stands left before → (left ≡ NO_NODE → ⊥) → distance before < distance left
+smaller left before stands there = by_cases (nat_eq before NO_NODE)
+    (λ e. omega (arith, near before (eqb-true before NO_NODE e), far left there))
+    (λ e. let not : before ≡ NO_NODE → ⊥ = eqb-false before NO_NODE e in
     omega (arith, far before not, far left there, below left before stands not))
 
 -- a text without items

@@ -9,4 +9,5 @@ pub mod Known
 pub mod Parts
 pub mod Pile
 pub mod Views
+pub mod Changes
 pub mod Unescaped

@@ -1,5 +1,6 @@
 -- What a part shows over the nodes that are made, and which numbers it holds.
 use Rattle.std.specs.Prelude.{◌≡◌, ◌≤◌, ℕ, List, map}
+use Rattle.ink_core.specs.declared.form.TheConstants.{NO_NODE}
 use Rattle.ink_core.specs.declared.part.Part.{Part}
 use Rattle.ink_core.specs.declared.part.Part.TheVariants as part
 use Rattle.ink_core.specs.declared.part.Label.TheVariants as label
@@ -27,7 +28,7 @@ sights_of forms parts = map (sight_of forms) parts
 
 -- the number is of one of so many nodes, or stands for nothing
 abbrev pub Stands : ℕ → ℕ → Type 0
-Stands count number = count ≤ number → number ≡ 4294967295
+Stands count number = count ≤ number → number ≡ NO_NODE
 
 -- the number of its node or its value, and else that of nothing
 abbrev pub value_number : Part → ℕ
@@ -36,13 +37,13 @@ value_number (part.NoResult form) = form
 value_number (part.Statement start value) = value
 value_number (part.Statements before start value) = value
 value_number (part.Body opening closing before start value) = value
-value_number _ = 4294967295
+value_number _ = NO_NODE
 
 -- the number of the statements before its last, and else that of nothing
 abbrev pub before_number : Part → ℕ
 before_number (part.Statements before start value) = before
 before_number (part.Body opening closing before start value) = before
-before_number _ = 4294967295
+before_number _ = NO_NODE
 
 -- the numbers of a part are so
 abbrev pub PartStands : ℕ → Part → Type 0

@@ -1,5 +1,6 @@
 -- What is seen of a node by its number.
 use Rattle.std.specs.Prelude.{ℕ, if◌then◌else◌, nat_lt}
+use Rattle.ink_core.specs.declared.form.TheConstants.{NO_NODE}
 use Rattle.ink_core.specs.declared.form.Form.{Form}
 use Rattle.ink_core.specs.declared.form.Form.TheVariants as n
 use Rattle.ink_core.specs.declared.part.Looked.{Looked}
@@ -7,7 +8,7 @@ use Rattle.ink_core.specs.declared.part.Looked.TheVariants as looked
 
 -- the number of a child, where it is before its parent
 abbrev pub child_before : ℕ → ℕ → ℕ
-child_before number parent = if nat_lt number parent then number else 4294967295
+child_before number parent = if nat_lt number parent then number else NO_NODE
 
 abbrev pub seen_of : Form → ℕ → Looked
 seen_of (n.Word token) number = looked.Word token

@@ -1,6 +1,7 @@
 -- A text with its parts and embedded expressions, as the calls that join them.
 use Rattle.std.specs.Prelude.{◌≡◌, ℕ, zero, suc, List, [], ◌∷◌, ◌++◌, Option, None, Some}
 use Rattle.ink_grammar.specs.declared.token.Terminal.{Terminal}
+use Rattle.ink_core.specs.declared.form.TheConstants.{NO_NODE}
 use Rattle.ink_core.specs.declared.form.Literal.TheVariants as literal
 use Rattle.ink_core.specs.declared.form.Selector.TheVariants as method
 use Rattle.ink_core.specs.declared.part.Looked.{Looked}
@@ -70,8 +71,8 @@ Sees forms core looked.Other = (word_of core ≡ None) × (items_of core ≡ [])
 -- the numbers in what was seen
 abbrev pub before_seen : Looked → ℕ
 before_seen (looked.More before item) = before
-before_seen _ = 4294967295
+before_seen _ = NO_NODE
 
 abbrev pub item_seen : Looked → ℕ
 item_seen (looked.More before item) = item
-item_seen _ = 4294967295
+item_seen _ = NO_NODE

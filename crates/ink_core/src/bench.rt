@@ -4,22 +4,20 @@
 //! What is taken lies in a pile. A node is made of the numbers on its top, and takes their place.
 ghost use Rattle.std.specs.Prelude.{◌≡◌, ◌≤◌, ◌∷◌, ◌++◌, [], All, length, OnOk, IfOk};
 ghost use Rattle.std.specs.Prelude.{if◌then◌else◌, nat_lt};
+ghost use Rattle.ink_core.specs.declared.form.TheConstants.{NO_NODE};
 ghost use Rattle.ink_core.specs.Parts.{Stands, PartStands};
 ghost use Rattle.ink_core.specs.Seen.{seen_of};
 
-use crate::form::{Constructed, CoreModule, Form, FormId, Literal};
+use crate::form::{Constructed, CoreModule, Form, FormId, Literal, NO_NODE};
 use crate::part::{Label, Looked, NO_TOKEN, Part};
 use ink_grammar::{Keyword, Shape, Terminal};
 use std::alloc::{AllocError, Global};
 
-/// No node's number.
-const NOTHING: FormId = 0xffff_ffff;
-
 /// The number of a child, where it is before its parent.
 fn child_before(number: FormId, parent: FormId) -> FormId
-    ensures { result ≡ (if nat_lt number parent then number else 4294967295) }
+    ensures { result ≡ (if nat_lt number parent then number else NO_NODE) }
 {
-    if number < parent { number } else { NOTHING }
+    if number < parent { number } else { NO_NODE }
 }
 
 /// What is seen of a node of this number.
@@ -44,11 +42,12 @@ pub(crate) struct Bench {
     parts: Vec<Part>,
     ghost stand: { All (Stands (length nodes.items)) numbers.items },
     ghost parts_stand: { All (PartStands (length nodes.items)) parts.items },
-    ghost few: { length nodes.items ≤ 4294967295 },
+    ghost few: { length nodes.items ≤ NO_NODE },
 }
 
 impl Bench {
     ghost use Rattle.ink_core.specs.Views as view;
+    ghost use Rattle.ink_core.specs.Changes.{Leaves, Takes};
     ghost use Rattle.ink_core.specs.Core as core;
     ghost use Rattle.ink_core.specs.Built as built;
     ghost use Rattle.ink_core.specs.Known as of;
@@ -80,7 +79,7 @@ impl Bench {
     {
         match self.numbers.pop() {
             Some(number) => number,
-            None => NOTHING,
+            None => NO_NODE,
         }
     }
 
@@ -90,7 +89,7 @@ impl Bench {
         ensures known { OnOk result (view.known self.new ≡ view.known self.old) }
     {
         let number = self.nodes.len();
-        if number >= 0xffff_ffff {
+        if number >= NO_NODE as usize {
             return Err(AllocError);
         }
         self.nodes.push(form)?;
@@ -114,7 +113,7 @@ impl Bench {
         ensures taken { OnOk result (view.taken self.new ≡ core.Missing ∷ view.taken self.old) }
         ensures known { OnOk result (view.known self.new ≡ view.known self.old) }
     {
-        self.push_number(NOTHING)?;
+        self.push_number(NO_NODE)?;
         Ok(())
     }
 
@@ -159,7 +158,7 @@ impl Bench {
     /// What is seen of the node of this number. A child that isn't before it stands for nothing.
     pub fn look(&self, number: FormId) -> Looked
         ensures sees { texts.Sees (view.forms self.now) (built.at (view.forms self.now) number) result }
-        ensures there { number ≡ 4294967295 → result ≡ looked.Other }
+        ensures there { number ≡ NO_NODE → result ≡ looked.Other }
         ensures before { parts.Stands number (texts.before_seen result) }
         ensures before_stands { parts.Stands (length self.now.nodes.items) (texts.before_seen result) }
         ensures item_stands { parts.Stands (length self.now.nodes.items) (texts.item_seen result) }
@@ -172,8 +171,7 @@ impl Bench {
 
     /// Makes a list of the two on top.
     pub fn more(&mut self) -> Result<(), AllocError>
-        ensures taken { OnOk result (view.taken self.new ≡ core.More (pile.top (pile.rest (view.taken self.old))) (pile.top (view.taken self.old)) ∷ pile.rest (pile.rest (view.taken self.old))) }
-        ensures known { OnOk result (view.known self.new ≡ view.known self.old) }
+        ensures { OnOk result (Leaves self.old self.new (core.More (pile.top (pile.rest (view.taken self.old))) (pile.top (view.taken self.old)) ∷ pile.rest (pile.rest (view.taken self.old)))) }
     {
         let item = self.pop();
         let before = self.pop();
@@ -182,8 +180,7 @@ impl Bench {
 
     /// Puts the third on top.
     pub fn raise_third(&mut self) -> Result<(), AllocError>
-        ensures taken { OnOk result (view.taken self.new ≡ pile.top (pile.rest (pile.rest (view.taken self.old))) ∷ pile.top (view.taken self.old) ∷ pile.top (pile.rest (view.taken self.old)) ∷ pile.rest (pile.rest (pile.rest (view.taken self.old)))) }
-        ensures known { OnOk result (view.known self.new ≡ view.known self.old) }
+        ensures { OnOk result (Leaves self.old self.new (pile.top (pile.rest (pile.rest (view.taken self.old))) ∷ pile.top (view.taken self.old) ∷ pile.top (pile.rest (view.taken self.old)) ∷ pile.rest (pile.rest (pile.rest (view.taken self.old))))) }
     {
         let first = self.pop();
         let second = self.pop();
@@ -195,8 +192,7 @@ impl Bench {
 
     /// Makes a statement of the one on top.
     fn statement(&mut self, start: u32) -> Result<(), AllocError>
-        ensures taken { OnOk result (view.taken self.new ≡ core.Statement start (pile.top (view.taken self.old)) ∷ pile.rest (view.taken self.old)) }
-        ensures known { OnOk result (view.known self.new ≡ view.known self.old) }
+        ensures { OnOk result (Leaves self.old self.new (core.Statement start (pile.top (view.taken self.old)) ∷ pile.rest (view.taken self.old))) }
     {
         let value = self.pop();
         self.push(Form::Statement { start, value })
@@ -204,8 +200,7 @@ impl Bench {
 
     /// Gives up the one on top.
     pub fn give_up(&mut self, start: u32) -> Result<(), AllocError>
-        ensures taken { OnOk result (view.taken self.new ≡ core.Drop start (pile.top (view.taken self.old)) ∷ pile.rest (view.taken self.old)) }
-        ensures known { OnOk result (view.known self.new ≡ view.known self.old) }
+        ensures { OnOk result (Leaves self.old self.new (core.Drop start (pile.top (view.taken self.old)) ∷ pile.rest (view.taken self.old))) }
     {
         let value = self.pop();
         self.push(Form::Drop { start, value })
@@ -213,8 +208,7 @@ impl Bench {
 
     /// Makes a block of the statements on top.
     fn block(&mut self, start: u32, end: u32) -> Result<(), AllocError>
-        ensures taken { OnOk result (view.taken self.new ≡ core.Block start end (pile.top (view.taken self.old)) ∷ pile.rest (view.taken self.old)) }
-        ensures known { OnOk result (view.known self.new ≡ view.known self.old) }
+        ensures { OnOk result (Leaves self.old self.new (core.Block start end (pile.top (view.taken self.old)) ∷ pile.rest (view.taken self.old))) }
     {
         let statements = self.pop();
         self.push(Form::Block {
@@ -227,8 +221,7 @@ impl Bench {
     /// Takes a keyword as a value.
     #[tactic(auto, unfolding(crate::specs::Sights::keyword_core))]
     fn take_keyword(&mut self, keyword: Keyword, token: Terminal) -> Result<(), AllocError>
-        ensures taken { OnOk result (view.taken self.new ≡ spec.keyword_core keyword token ∷ view.taken self.old) }
-        ensures known { OnOk result (view.known self.new ≡ view.known self.old) }
+        ensures { OnOk result (Takes self.old self.new (spec.keyword_core keyword token)) }
     {
         let start = token.start;
         self.push(match keyword {
@@ -253,8 +246,7 @@ impl Bench {
 
     /// Takes a field of `self`.
     fn take_field(&mut self, token: Terminal) -> Result<(), AllocError>
-        ensures taken { OnOk result (view.taken self.new ≡ core.Field token.start token (core.SelfValue token.start) ∷ view.taken self.old) }
-        ensures known { OnOk result (view.known self.new ≡ view.known self.old) }
+        ensures { OnOk result (Takes self.old self.new (core.Field token.start token (core.SelfValue token.start))) }
     {
         let start = token.start;
         self.push(Form::SelfValue { start })?;
@@ -269,8 +261,7 @@ impl Bench {
     /// Takes a token as a value.
     #[tactic(auto, unfolding(crate::specs::Sights::leaf_core))]
     fn take_leaf(&mut self, token: Terminal) -> Result<(), AllocError>
-        ensures taken { OnOk result (view.taken self.new ≡ spec.leaf_core token.shape token ∷ view.taken self.old) }
-        ensures known { OnOk result (view.known self.new ≡ view.known self.old) }
+        ensures { OnOk result (Takes self.old self.new (spec.leaf_core token.shape token)) }
     {
         let start = token.start;
         match token.shape {
@@ -288,8 +279,7 @@ impl Bench {
 
     /// Takes a type or constructor without arguments.
     fn take_constant(&mut self, start: u32, made: Constructed) -> Result<(), AllocError>
-        ensures taken { OnOk result (view.taken self.new ≡ core.New start made core.Missing ∷ view.taken self.old) }
-        ensures known { OnOk result (view.known self.new ≡ view.known self.old) }
+        ensures { OnOk result (Takes self.old self.new (core.New start made core.Missing)) }
     {
         self.push_nothing()?;
         let arguments = self.pop();
@@ -309,8 +299,7 @@ impl Bench {
     ) -> Result<(), AllocError>
         requires before { parts.Stands (length self.now.nodes.items) before }
         requires value { parts.Stands (length self.now.nodes.items) value }
-        ensures taken { OnOk result (view.taken self.new ≡ core.More (built.at (view.forms self.old) before) (core.Statement start (built.at (view.forms self.old) value)) ∷ view.taken self.old) }
-        ensures known { OnOk result (view.known self.new ≡ view.known self.old) }
+        ensures { OnOk result (Takes self.old self.new (core.More (built.at (view.forms self.old) before) (core.Statement start (built.at (view.forms self.old) value)))) }
     {
         self.push_number(before)?;
         self.push_number(value)?;
@@ -322,8 +311,7 @@ impl Bench {
     fn take_dropped(&mut self, before: FormId, start: u32, value: FormId) -> Result<(), AllocError>
         requires before { parts.Stands (length self.now.nodes.items) before }
         requires value { parts.Stands (length self.now.nodes.items) value }
-        ensures taken { OnOk result (view.taken self.new ≡ core.More (built.at (view.forms self.old) before) (core.Drop start (built.at (view.forms self.old) value)) ∷ view.taken self.old) }
-        ensures known { OnOk result (view.known self.new ≡ view.known self.old) }
+        ensures { OnOk result (Takes self.old self.new (core.More (built.at (view.forms self.old) before) (core.Drop start (built.at (view.forms self.old) value)))) }
     {
         self.push_number(before)?;
         self.push_number(value)?;
@@ -333,8 +321,7 @@ impl Bench {
 
     /// Takes the node of this number.
     pub fn take(&mut self, number: u32) -> Result<(), AllocError>
-        ensures taken { OnOk result (view.taken self.new ≡ (of.at (view.known self.old) number).core ∷ view.taken self.old) }
-        ensures known { OnOk result (view.known self.new ≡ view.known self.old) }
+        ensures { OnOk result (Takes self.old self.new ((of.at (view.known self.old) number).core)) }
     {
         match self.part(number) {
             Part::Nothing => self.push_nothing(),
@@ -400,8 +387,7 @@ impl Bench {
 
     /// Takes a list that another item follows: a value at its end is given up.
     pub fn take_followed(&mut self, number: u32) -> Result<(), AllocError>
-        ensures taken { OnOk result (view.taken self.new ≡ spec.followed (of.at (view.known self.old) number) ∷ view.taken self.old) }
-        ensures known { OnOk result (view.known self.new ≡ view.known self.old) }
+        ensures { OnOk result (Takes self.old self.new (spec.followed (of.at (view.known self.old) number))) }
     {
         match self.part(number) {
             Part::Statements(before, start, value) => self.take_dropped(before, start, value),
@@ -411,8 +397,7 @@ impl Bench {
 
     /// Takes a block whose value is given up.
     pub fn take_given_up(&mut self, number: u32) -> Result<(), AllocError>
-        ensures taken { OnOk result (view.taken self.new ≡ spec.given_up (of.at (view.known self.old) number) ∷ view.taken self.old) }
-        ensures known { OnOk result (view.known self.new ≡ view.known self.old) }
+        ensures { OnOk result (Takes self.old self.new (spec.given_up (of.at (view.known self.old) number))) }
     {
         match self.part(number) {
             Part::Body(opening, closing, before, start, value) => {

@@ -8,6 +8,7 @@ ghost use Rattle.ink_core.specs.Forms as spec;
 ghost use Rattle.ink_core.specs.Sights.{given_up};
 ghost use Rattle.ink_core.specs.declared.form.Literal.TheVariants as literal;
 ghost use Rattle.ink_core.specs.declared.form.Constructed.TheVariants as made;
+ghost use Rattle.ink_core.specs.Changes.{Leaves, Takes};
 
 use crate::bench::Bench;
 use crate::form::{Choice, Constructed, Form, Literal};
@@ -16,8 +17,7 @@ use std::alloc::AllocError;
 
 /// Begins the arm of true or false.
 fn open_arm(bench: &mut Bench, here: u32, truth: bool) -> Result<(), AllocError>
-    ensures taken { OnOk result (view.taken bench.new ≡ core.Missing ∷ core.Lit here (literal.Bool truth) ∷ view.taken bench.old) }
-    ensures known { OnOk result (view.known bench.new ≡ view.known bench.old) }
+    ensures { OnOk result (Leaves bench.old bench.new (core.Missing ∷ core.Lit here (literal.Bool truth) ∷ view.taken bench.old)) }
 {
     bench.push(Form::Lit {
         start: here,
@@ -33,8 +33,7 @@ fn open_result_arm(
     made: Constructed,
     word: Terminal,
 ) -> Result<(), AllocError>
-    ensures taken { OnOk result (view.taken bench.new ≡ core.Missing ∷ core.New here made (spec.list_of_one (core.Var word)) ∷ view.taken bench.old) }
-    ensures known { OnOk result (view.known bench.new ≡ view.known bench.old) }
+    ensures { OnOk result (Leaves bench.old bench.new (core.Missing ∷ core.New here made (spec.list_of_one (core.Var word)) ∷ view.taken bench.old)) }
 {
     bench.push(Form::Empty)?;
     bench.push(Form::Var(word))?;
@@ -50,8 +49,7 @@ fn open_result_arm(
 
 /// Ends an arm with its value, which is on top, and puts it behind the arms before it.
 fn close_arm(bench: &mut Bench, start: u32) -> Result<(), AllocError>
-    ensures taken { OnOk result (view.taken bench.new ≡ core.More (top (rest (rest (rest (view.taken bench.old))))) (core.Arm start (top (rest (rest (view.taken bench.old)))) (top (rest (view.taken bench.old))) (top (view.taken bench.old))) ∷ rest (rest (rest (rest (view.taken bench.old))))) }
-    ensures known { OnOk result (view.known bench.new ≡ view.known bench.old) }
+    ensures { OnOk result (Leaves bench.old bench.new (core.More (top (rest (rest (rest (view.taken bench.old))))) (core.Arm start (top (rest (rest (view.taken bench.old)))) (top (rest (view.taken bench.old))) (top (view.taken bench.old))) ∷ rest (rest (rest (rest (view.taken bench.old)))))) }
 {
     let value = bench.pop();
     let guard = bench.pop();
@@ -67,8 +65,7 @@ fn close_arm(bench: &mut Bench, start: u32) -> Result<(), AllocError>
 
 /// Makes a Match of the scrutinee and the arms on top.
 fn close_match(bench: &mut Bench, start: u32, choice: Choice) -> Result<(), AllocError>
-    ensures taken { OnOk result (view.taken bench.new ≡ core.Match start choice (top (rest (view.taken bench.old))) (top (view.taken bench.old)) ∷ rest (rest (view.taken bench.old))) }
-    ensures known { OnOk result (view.known bench.new ≡ view.known bench.old) }
+    ensures { OnOk result (Leaves bench.old bench.new (core.Match start choice (top (rest (view.taken bench.old))) (top (view.taken bench.old)) ∷ rest (rest (view.taken bench.old)))) }
 {
     let arms = bench.pop();
     let scrutinee = bench.pop();
@@ -88,8 +85,7 @@ pub(crate) fn and(
     a: u32,
     b: u32,
 ) -> Result<(), AllocError>
-    ensures taken { OnOk result (view.taken bench.new ≡ spec.and start at_and (at (view.known bench.old) a).core (at (view.known bench.old) b).core ∷ view.taken bench.old) }
-    ensures known { OnOk result (view.known bench.new ≡ view.known bench.old) }
+    ensures { OnOk result (Takes bench.old bench.new (spec.and start at_and (at (view.known bench.old) a).core (at (view.known bench.old) b).core)) }
 {
     bench.take(a)?;
     bench.push(Form::Empty)?;
@@ -113,8 +109,7 @@ pub(crate) fn or(
     a: u32,
     b: u32,
 ) -> Result<(), AllocError>
-    ensures taken { OnOk result (view.taken bench.new ≡ spec.or start at_or (at (view.known bench.old) a).core (at (view.known bench.old) b).core ∷ view.taken bench.old) }
-    ensures known { OnOk result (view.known bench.new ≡ view.known bench.old) }
+    ensures { OnOk result (Takes bench.old bench.new (spec.or start at_or (at (view.known bench.old) a).core (at (view.known bench.old) b).core)) }
 {
     bench.take(a)?;
     bench.push(Form::Empty)?;
@@ -138,8 +133,7 @@ pub(crate) fn if_else(
     x: u32,
     y: u32,
 ) -> Result<(), AllocError>
-    ensures taken { OnOk result (view.taken bench.new ≡ spec.if_else start (at (view.known bench.old) c).core (at (view.known bench.old) x).core (at (view.known bench.old) y).core ∷ view.taken bench.old) }
-    ensures known { OnOk result (view.known bench.new ≡ view.known bench.old) }
+    ensures { OnOk result (Takes bench.old bench.new (spec.if_else start (at (view.known bench.old) c).core (at (view.known bench.old) x).core (at (view.known bench.old) y).core)) }
 {
     bench.take(c)?;
     bench.push(Form::Empty)?;
@@ -154,8 +148,7 @@ pub(crate) fn if_else(
 
 /// Takes a block and gives its value up.
 fn take_dropped(bench: &mut Bench, start: u32, block: u32) -> Result<(), AllocError>
-    ensures taken { OnOk result (view.taken bench.new ≡ core.Drop start (at (view.known bench.old) block).core ∷ view.taken bench.old) }
-    ensures known { OnOk result (view.known bench.new ≡ view.known bench.old) }
+    ensures { OnOk result (Takes bench.old bench.new (core.Drop start (at (view.known bench.old) block).core)) }
 {
     bench.take(block)?;
     bench.give_up(start)
@@ -163,8 +156,7 @@ fn take_dropped(bench: &mut Bench, start: u32, block: u32) -> Result<(), AllocEr
 
 /// `if c x`.
 pub(crate) fn if_alone(bench: &mut Bench, start: u32, c: u32, x: u32) -> Result<(), AllocError>
-    ensures taken { OnOk result (view.taken bench.new ≡ spec.if_alone start (at (view.known bench.old) c).core (at (view.known bench.old) x).core ∷ view.taken bench.old) }
-    ensures known { OnOk result (view.known bench.new ≡ view.known bench.old) }
+    ensures { OnOk result (Takes bench.old bench.new (spec.if_alone start (at (view.known bench.old) c).core (at (view.known bench.old) x).core)) }
 {
     bench.take(c)?;
     bench.push(Form::Empty)?;
@@ -182,8 +174,7 @@ pub(crate) fn if_alone(bench: &mut Bench, start: u32, c: u32, x: u32) -> Result<
 
 /// Makes a Loop of the body on top.
 fn close_loop(bench: &mut Bench, start: u32) -> Result<(), AllocError>
-    ensures taken { OnOk result (view.taken bench.new ≡ core.Loop start (top (view.taken bench.old)) ∷ rest (view.taken bench.old)) }
-    ensures known { OnOk result (view.known bench.new ≡ view.known bench.old) }
+    ensures { OnOk result (Leaves bench.old bench.new (core.Loop start (top (view.taken bench.old)) ∷ rest (view.taken bench.old))) }
 {
     let body = bench.pop();
     bench.push(Form::Loop { start, body })
@@ -191,8 +182,7 @@ fn close_loop(bench: &mut Bench, start: u32) -> Result<(), AllocError>
 
 /// `loop x`.
 pub(crate) fn endless(bench: &mut Bench, start: u32, x: u32) -> Result<(), AllocError>
-    ensures taken { OnOk result (view.taken bench.new ≡ core.Loop start (given_up (at (view.known bench.old) x)) ∷ view.taken bench.old) }
-    ensures known { OnOk result (view.known bench.new ≡ view.known bench.old) }
+    ensures { OnOk result (Takes bench.old bench.new (core.Loop start (given_up (at (view.known bench.old) x)))) }
 {
     bench.take_given_up(x)?;
     close_loop(bench, start)
@@ -200,8 +190,7 @@ pub(crate) fn endless(bench: &mut Bench, start: u32, x: u32) -> Result<(), Alloc
 
 /// `while c x`.
 pub(crate) fn while_loop(bench: &mut Bench, start: u32, c: u32, body: u32) -> Result<(), AllocError>
-    ensures taken { OnOk result (view.taken bench.new ≡ spec.while start (at (view.known bench.old) c).core (at (view.known bench.old) body).core ∷ view.taken bench.old) }
-    ensures known { OnOk result (view.known bench.new ≡ view.known bench.old) }
+    ensures { OnOk result (Takes bench.old bench.new (spec.while start (at (view.known bench.old) c).core (at (view.known bench.old) body).core)) }
 {
     bench.take(c)?;
     bench.push(Form::Empty)?;
@@ -217,8 +206,7 @@ pub(crate) fn while_loop(bench: &mut Bench, start: u32, c: u32, body: u32) -> Re
 
 /// Makes the return of an error of the list of one on top.
 fn close_error(bench: &mut Bench, here: u32) -> Result<(), AllocError>
-    ensures taken { OnOk result (view.taken bench.new ≡ core.Return here (core.New here made.Error (top (view.taken bench.old))) ∷ rest (view.taken bench.old)) }
-    ensures known { OnOk result (view.known bench.new ≡ view.known bench.old) }
+    ensures { OnOk result (Leaves bench.old bench.new (core.Return here (core.New here made.Error (top (view.taken bench.old))) ∷ rest (view.taken bench.old))) }
 {
     let arguments = bench.pop();
     bench.push(Form::New {
@@ -232,8 +220,7 @@ fn close_error(bench: &mut Bench, here: u32) -> Result<(), AllocError>
 
 /// `throw e`.
 pub(crate) fn throw(bench: &mut Bench, start: u32, e: u32) -> Result<(), AllocError>
-    ensures taken { OnOk result (view.taken bench.new ≡ spec.returned_error start (at (view.known bench.old) e).core ∷ view.taken bench.old) }
-    ensures known { OnOk result (view.known bench.new ≡ view.known bench.old) }
+    ensures { OnOk result (Takes bench.old bench.new (spec.returned_error start (at (view.known bench.old) e).core)) }
 {
     bench.push(Form::Empty)?;
     bench.take(e)?;
@@ -243,8 +230,7 @@ pub(crate) fn throw(bench: &mut Bench, start: u32, e: u32) -> Result<(), AllocEr
 
 /// The value of the arm of Error: the return of what the word binds.
 fn thrown_again(bench: &mut Bench, here: u32, word: Terminal) -> Result<(), AllocError>
-    ensures taken { OnOk result (view.taken bench.new ≡ spec.returned_error here (core.Var word) ∷ view.taken bench.old) }
-    ensures known { OnOk result (view.known bench.new ≡ view.known bench.old) }
+    ensures { OnOk result (Takes bench.old bench.new (spec.returned_error here (core.Var word))) }
 {
     bench.push(Form::Empty)?;
     bench.push(Form::Var(word))?;
@@ -259,8 +245,7 @@ pub(crate) fn try_value(
     word: Terminal,
     e: u32,
 ) -> Result<(), AllocError>
-    ensures taken { OnOk result (view.taken bench.new ≡ spec.try start word (at (view.known bench.old) e).core ∷ view.taken bench.old) }
-    ensures known { OnOk result (view.known bench.new ≡ view.known bench.old) }
+    ensures { OnOk result (Takes bench.old bench.new (spec.try start word (at (view.known bench.old) e).core)) }
 {
     bench.take(e)?;
     bench.push(Form::Empty)?;

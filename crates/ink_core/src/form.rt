@@ -10,8 +10,11 @@ use ink_grammar::Terminal;
 /// result, a guard or arguments that aren't written.
 pub type FormId = u32;
 
+/// The number of nothing: no node has it.
+pub(crate) const NO_NODE: FormId = 0xffff_ffff;
+
 /// A value that is written as it is.
-#[derive(Clone, Copy, PartialEq, Eq)]
+#[derive(Clone, Copy)]
 pub enum Literal {
     /// A whole number, in decimal or hexadecimal digits.
     Int(Terminal),
@@ -23,7 +26,7 @@ pub enum Literal {
 }
 
 /// What a call calls, and where.
-#[derive(Clone, Copy, PartialEq, Eq)]
+#[derive(Clone, Copy)]
 pub enum Selector {
     /// A method that is called by its name.
     Named(Terminal),
@@ -38,7 +41,7 @@ pub enum Selector {
 }
 
 /// What is made, or which constructor a pattern is of.
-#[derive(Clone, Copy, PartialEq, Eq)]
+#[derive(Clone, Copy)]
 pub enum Constructed {
     /// A type, or in a pattern a constructor, by its name alone.
     Named(Terminal),
@@ -56,7 +59,7 @@ pub enum Constructed {
 
 /// What was written where a `Match` stands. The scrutinee of one that is made from `if`, `while`, `and` or `or` is a
 /// condition.
-#[derive(Clone, Copy, PartialEq, Eq)]
+#[derive(Clone, Copy)]
 pub enum Choice {
     Match,
     If,
@@ -69,14 +72,14 @@ pub enum Choice {
 }
 
 /// What a declared type is.
-#[derive(Clone, Copy, PartialEq, Eq)]
+#[derive(Clone, Copy)]
 pub enum TypeForm {
     Object,
     Enum,
 }
 
 /// A node of a module's core form.
-#[derive(Clone, Copy, PartialEq, Eq)]
+#[derive(Clone, Copy)]
 pub enum Form {
     /// A word that is carried over, as `pub`.
     Word(Terminal),

@@ -5,6 +5,8 @@ ghost use Rattle.ink_core.specs.Known.{at};
 ghost use Rattle.ink_core.specs.Core as core;
 ghost use Rattle.ink_core.specs.Forms as spec;
 ghost use Rattle.ink_core.specs.Sights as sights;
+ghost use Rattle.ink_core.specs.declared.form.Choice.TheVariants as choice;
+ghost use Rattle.ink_core.specs.Changes.{Takes};
 
 use crate::bench::Bench;
 use crate::choices::{endless, if_alone, if_else, throw, try_value, while_loop};
@@ -12,7 +14,7 @@ use crate::form::{Choice, Constructed, Form, TypeForm};
 use crate::part::{Label, Part};
 use crate::texts::text;
 use crate::values::{
-    assigned, borrow_kind, called, close_new, constructed_with, field, linked, linked_call,
+    assigned, borrowed, called, close_new, constructed_with, field, linked, linked_call,
     list_of_three, list_of_two, operated, returned,
 };
 use ink_grammar::{FiveChildren, FourChildren, Shape, Terminal, ThreeChildren, TwoChildren};
@@ -28,21 +30,13 @@ fn value_of_two(
     a: u32,
     b: u32,
 ) -> Result<(), AllocError>
-    ensures taken { OnOk result (view.taken bench.new ≡ spec.value_of_two source.now form start (at (view.known bench.old) a) (at (view.known bench.old) b) ∷ view.taken bench.old) }
-    ensures known { OnOk result (view.known bench.new ≡ view.known bench.old) }
+    ensures { OnOk result (Takes bench.old bench.new (spec.value_of_two source.now form start (at (view.known bench.old) a) (at (view.known bench.old) b))) }
 {
     let word = bench.token(a);
     match form {
         TwoChildren::Return => returned(bench, start, b),
         TwoChildren::Throw => throw(bench, start, b),
-        TwoChildren::Borrow => {
-            let operand = bench.child(b)?;
-            bench.push(Form::Borrow {
-                start,
-                kind: borrow_kind(word.shape),
-                operand,
-            })
-        }
+        TwoChildren::Borrow => borrowed(bench, start, word, b),
         TwoChildren::Try => try_value(bench, start, word, b),
         TwoChildren::Recover => {
             let operand = bench.child(b)?;
@@ -75,8 +69,7 @@ fn pattern_of_two(
     a: u32,
     b: u32,
 ) -> Result<(), AllocError>
-    ensures taken { OnOk result (view.taken bench.new ≡ spec.pattern_of_two form start (at (view.known bench.old) a) (at (view.known bench.old) b) ∷ view.taken bench.old) }
-    ensures known { OnOk result (view.known bench.new ≡ view.known bench.old) }
+    ensures { OnOk result (Takes bench.old bench.new (spec.pattern_of_two form start (at (view.known bench.old) a) (at (view.known bench.old) b))) }
 {
     match form {
         TwoChildren::Either => {
@@ -115,8 +108,7 @@ fn declaration_of_two(
     a: u32,
     b: u32,
 ) -> Result<(), AllocError>
-    ensures taken { OnOk result (view.taken bench.new ≡ spec.declaration_of_two form (at (view.known bench.old) a) (at (view.known bench.old) b) ∷ view.taken bench.old) }
-    ensures known { OnOk result (view.known bench.new ≡ view.known bench.old) }
+    ensures { OnOk result (Takes bench.old bench.new (spec.declaration_of_two form (at (view.known bench.old) a) (at (view.known bench.old) b))) }
 {
     let name = bench.token(a);
     match form {
@@ -175,11 +167,23 @@ pub(crate) fn two(
 
 /// A tuple of two.
 fn pair(bench: &mut Bench, start: u32, a: u32, b: u32) -> Result<(), AllocError>
-    ensures taken { OnOk result (view.taken bench.new ≡ spec.pair start (at (view.known bench.old) a).core (at (view.known bench.old) b).core ∷ view.taken bench.old) }
-    ensures known { OnOk result (view.known bench.new ≡ view.known bench.old) }
+    ensures { OnOk result (Takes bench.old bench.new (spec.pair start (at (view.known bench.old) a).core (at (view.known bench.old) b).core)) }
 {
     list_of_two(bench, a, b)?;
     close_new(bench, start, Constructed::Tuple2)
+}
+
+/// A Match as it is written.
+fn matched(bench: &mut Bench, start: u32, scrutinee: u32, arms: u32) -> Result<(), AllocError>
+    ensures { OnOk result (Takes bench.old bench.new (core.Match start choice.Match (at (view.known bench.old) scrutinee).core (at (view.known bench.old) arms).core)) }
+{
+    let (scrutinee, arms) = bench.two_children(scrutinee, arms)?;
+    bench.push(Form::Match {
+        start,
+        choice: Choice::Match,
+        scrutinee,
+        arms,
+    })
 }
 
 /// A node of three children that is no block.
@@ -192,8 +196,7 @@ fn core_of_three(
     b: u32,
     c: u32,
 ) -> Result<(), AllocError>
-    ensures taken { OnOk result (view.taken bench.new ≡ spec.core_of_three form start (at (view.known bench.old) a) (at (view.known bench.old) b) (at (view.known bench.old) c) ∷ view.taken bench.old) }
-    ensures known { OnOk result (view.known bench.new ≡ view.known bench.old) }
+    ensures { OnOk result (Takes bench.old bench.new (spec.core_of_three form start (at (view.known bench.old) a) (at (view.known bench.old) b) (at (view.known bench.old) c))) }
 {
     let word = bench.token(b);
     match form {
@@ -212,15 +215,7 @@ fn core_of_three(
         ThreeChildren::Assign => assigned(bench, start, word, a, c),
         ThreeChildren::Binary => operated(bench, start, word, a, c),
         ThreeChildren::While => while_loop(bench, start, b, c),
-        ThreeChildren::Match => {
-            let (scrutinee, arms) = bench.two_children(b, c)?;
-            bench.push(Form::Match {
-                start,
-                choice: Choice::Match,
-                scrutinee,
-                arms,
-            })
-        }
+        ThreeChildren::Match => matched(bench, start, b, c),
         ThreeChildren::MemberCall => linked_call(bench, start, a, word, c),
         ThreeChildren::Pair => pair(bench, start, b, c),
         ThreeChildren::PairPattern => pair(bench, start, b, c),
@@ -259,8 +254,7 @@ pub(crate) fn three(
 
 /// A tuple of three.
 fn triple(bench: &mut Bench, start: u32, a: u32, b: u32, c: u32) -> Result<(), AllocError>
-    ensures taken { OnOk result (view.taken bench.new ≡ spec.triple start (at (view.known bench.old) a).core (at (view.known bench.old) b).core (at (view.known bench.old) c).core ∷ view.taken bench.old) }
-    ensures known { OnOk result (view.known bench.new ≡ view.known bench.old) }
+    ensures { OnOk result (Takes bench.old bench.new (spec.triple start (at (view.known bench.old) a).core (at (view.known bench.old) b).core (at (view.known bench.old) c).core)) }
 {
     list_of_three(bench, a, b, c)?;
     close_new(bench, start, Constructed::Tuple3)
@@ -268,8 +262,7 @@ fn triple(bench: &mut Bench, start: u32, a: u32, b: u32, c: u32) -> Result<(), A
 
 /// An `if`, without or with what stands behind its `else`.
 fn conditional(bench: &mut Bench, start: u32, c: u32, x: u32, y: u32) -> Result<(), AllocError>
-    ensures taken { OnOk result (view.taken bench.new ≡ spec.conditional start (at (view.known bench.old) c).core (at (view.known bench.old) x).core (at (view.known bench.old) y).label (at (view.known bench.old) y).core ∷ view.taken bench.old) }
-    ensures known { OnOk result (view.known bench.new ≡ view.known bench.old) }
+    ensures { OnOk result (Takes bench.old bench.new (spec.conditional start (at (view.known bench.old) c).core (at (view.known bench.old) x).core (at (view.known bench.old) y).label (at (view.known bench.old) y).core)) }
 {
     match bench.label(y) {
         Label::Absent => if_alone(bench, start, c, x),
@@ -279,8 +272,7 @@ fn conditional(bench: &mut Bench, start: u32, c: u32, x: u32, y: u32) -> Result<
 
 /// The body of a method.
 fn method_body(bench: &mut Bench, signature: u32, block: u32) -> Result<(), AllocError>
-    ensures taken { OnOk result (view.taken bench.new ≡ spec.method_body (at (view.known bench.old) signature).label (at (view.known bench.old) block) ∷ view.taken bench.old) }
-    ensures known { OnOk result (view.known bench.new ≡ view.known bench.old) }
+    ensures { OnOk result (Takes bench.old bench.new (spec.method_body (at (view.known bench.old) signature).label (at (view.known bench.old) block))) }
 {
     match bench.label(signature) {
         Label::Absent => bench.take_given_up(block),
@@ -296,8 +288,7 @@ fn method(
     signature: u32,
     block: u32,
 ) -> Result<(), AllocError>
-    ensures taken { OnOk result (view.taken bench.new ≡ core.Method start (at (view.known bench.old) words).core (at (view.known bench.old) signature).core (spec.method_body (at (view.known bench.old) signature).label (at (view.known bench.old) block)) ∷ view.taken bench.old) }
-    ensures known { OnOk result (view.known bench.new ≡ view.known bench.old) }
+    ensures { OnOk result (Takes bench.old bench.new (core.Method start (at (view.known bench.old) words).core (at (view.known bench.old) signature).core (spec.method_body (at (view.known bench.old) signature).label (at (view.known bench.old) block)))) }
 {
     bench.take(words)?;
     bench.take(signature)?;
@@ -331,8 +322,7 @@ fn implementation(
     of_trait: u32,
     methods: u32,
 ) -> Result<(), AllocError>
-    ensures taken { OnOk result (view.taken bench.new ≡ core.Implementation start (sights.token_of (at (view.known bench.old) name).label) (sights.written (at (view.known bench.old) of_trait).label) (at (view.known bench.old) methods).core ∷ view.taken bench.old) }
-    ensures known { OnOk result (view.known bench.new ≡ view.known bench.old) }
+    ensures { OnOk result (Takes bench.old bench.new (core.Implementation start (sights.token_of (at (view.known bench.old) name).label) (sights.written (at (view.known bench.old) of_trait).label) (at (view.known bench.old) methods).core)) }
 {
     let name = bench.token(name);
     let of_trait = written(bench, of_trait);
@@ -342,6 +332,44 @@ fn implementation(
         name,
         of_trait,
         methods,
+    })
+}
+
+/// A field of a type.
+fn field_declaration(
+    bench: &mut Bench,
+    start: u32,
+    words: u32,
+    name: Terminal,
+    annotation: u32,
+) -> Result<(), AllocError>
+    ensures { OnOk result (Takes bench.old bench.new (core.FieldDeclaration start (at (view.known bench.old) words).core name (at (view.known bench.old) annotation).core)) }
+{
+    let (words, annotation) = bench.two_children(words, annotation)?;
+    bench.push(Form::FieldDeclaration {
+        start,
+        words,
+        name,
+        annotation,
+    })
+}
+
+/// An arm of a Match.
+fn arm(
+    bench: &mut Bench,
+    start: u32,
+    pattern: u32,
+    guard: u32,
+    value: u32,
+) -> Result<(), AllocError>
+    ensures { OnOk result (Takes bench.old bench.new (core.Arm start (at (view.known bench.old) pattern).core (at (view.known bench.old) guard).core (at (view.known bench.old) value).core)) }
+{
+    let (pattern, guard, value) = bench.three_children(pattern, guard, value)?;
+    bench.push(Form::Arm {
+        start,
+        pattern,
+        guard,
+        value,
     })
 }
 
@@ -356,20 +384,11 @@ fn core_of_four(
     c: u32,
     d: u32,
 ) -> Result<(), AllocError>
-    ensures taken { OnOk result (view.taken bench.new ≡ spec.core_of_four form start (at (view.known bench.old) a) (at (view.known bench.old) b) (at (view.known bench.old) c) (at (view.known bench.old) d) ∷ view.taken bench.old) }
-    ensures known { OnOk result (view.known bench.new ≡ view.known bench.old) }
+    ensures { OnOk result (Takes bench.old bench.new (spec.core_of_four form start (at (view.known bench.old) a) (at (view.known bench.old) b) (at (view.known bench.old) c) (at (view.known bench.old) d))) }
 {
     let name = bench.token(c);
     match form {
-        FourChildren::FieldDeclaration => {
-            let (words, annotation) = bench.two_children(b, d)?;
-            bench.push(Form::FieldDeclaration {
-                start,
-                words,
-                name,
-                annotation,
-            })
-        }
+        FourChildren::FieldDeclaration => field_declaration(bench, start, b, name, d),
         FourChildren::Method => method(bench, start, b, c, d),
         FourChildren::Trait => {
             let (words, methods) = bench.two_children(b, d)?;
@@ -382,15 +401,7 @@ fn core_of_four(
         }
         FourChildren::Implementation => implementation(bench, start, b, c, d),
         FourChildren::If => conditional(bench, start, b, c, d),
-        FourChildren::Arm => {
-            let (pattern, guard, value) = bench.three_children(b, c, d)?;
-            bench.push(Form::Arm {
-                start,
-                pattern,
-                guard,
-                value,
-            })
-        }
+        FourChildren::Arm => arm(bench, start, b, c, d),
         FourChildren::Triple => triple(bench, start, b, c, d),
         FourChildren::TriplePattern => triple(bench, start, b, c, d),
         FourChildren::TripleType => {
@@ -404,8 +415,7 @@ fn core_of_four(
 
 /// A signature.
 fn signature(bench: &mut Bench, a: u32, b: u32, c: u32, d: u32) -> Result<(), AllocError>
-    ensures taken { OnOk result (view.taken bench.new ≡ core.Signature (sights.token_of (at (view.known bench.old) a).label) (at (view.known bench.old) b).core (at (view.known bench.old) c).core (at (view.known bench.old) d).core ∷ view.taken bench.old) }
-    ensures known { OnOk result (view.known bench.new ≡ view.known bench.old) }
+    ensures { OnOk result (Takes bench.old bench.new (core.Signature (sights.token_of (at (view.known bench.old) a).label) (at (view.known bench.old) b).core (at (view.known bench.old) c).core (at (view.known bench.old) d).core)) }
 {
     let name = bench.token(a);
     let (type_parameters, parameters, result) = bench.three_children(b, c, d)?;
@@ -472,8 +482,7 @@ fn type_declaration(
     type_parameters: u32,
     members: u32,
 ) -> Result<(), AllocError>
-    ensures taken { OnOk result (view.taken bench.new ≡ core.TypeDeclaration start form (at (view.known bench.old) words).core name (at (view.known bench.old) type_parameters).core (at (view.known bench.old) members).core ∷ view.taken bench.old) }
-    ensures known { OnOk result (view.known bench.new ≡ view.known bench.old) }
+    ensures { OnOk result (Takes bench.old bench.new (core.TypeDeclaration start form (at (view.known bench.old) words).core name (at (view.known bench.old) type_parameters).core (at (view.known bench.old) members).core)) }
 {
     let (words, type_parameters, members) = bench.three_children(words, type_parameters, members)?;
     bench.push(Form::TypeDeclaration {
@@ -483,6 +492,49 @@ fn type_declaration(
         name,
         type_parameters,
         members,
+    })
+}
+
+/// A variable with its value.
+fn variable(
+    bench: &mut Bench,
+    start: u32,
+    word: u32,
+    name: Terminal,
+    annotation: u32,
+    value: u32,
+) -> Result<(), AllocError>
+    ensures { OnOk result (Takes bench.old bench.new (core.Let start (spec.is_mutable (at (view.known bench.old) word).label name) name (at (view.known bench.old) annotation).core (at (view.known bench.old) value).core)) }
+{
+    let mutable = is_mutable(bench.label(word), name);
+    let (annotation, value) = bench.two_children(annotation, value)?;
+    bench.push(Form::Let {
+        start,
+        mutable,
+        name,
+        annotation,
+        value,
+    })
+}
+
+/// A method that a trait asks for.
+fn trait_method(
+    bench: &mut Bench,
+    start: u32,
+    words: u32,
+    name: Terminal,
+    parameters: u32,
+    answer: u32,
+) -> Result<(), AllocError>
+    ensures { OnOk result (Takes bench.old bench.new (core.TraitMethod start (at (view.known bench.old) words).core name (at (view.known bench.old) parameters).core (at (view.known bench.old) answer).core)) }
+{
+    let (words, parameters, result) = bench.three_children(words, parameters, answer)?;
+    bench.push(Form::TraitMethod {
+        start,
+        words,
+        name,
+        parameters,
+        result,
     })
 }
 
@@ -497,8 +549,7 @@ fn core_of_five(
     d: u32,
     e: u32,
 ) -> Result<(), AllocError>
-    ensures taken { OnOk result (view.taken bench.new ≡ spec.core_of_five form start (at (view.known bench.old) b) (at (view.known bench.old) c) (at (view.known bench.old) d) (at (view.known bench.old) e) ∷ view.taken bench.old) }
-    ensures known { OnOk result (view.known bench.new ≡ view.known bench.old) }
+    ensures { OnOk result (Takes bench.old bench.new (spec.core_of_five form start (at (view.known bench.old) b) (at (view.known bench.old) c) (at (view.known bench.old) d) (at (view.known bench.old) e))) }
 {
     let name = bench.token(c);
     match form {
@@ -520,27 +571,8 @@ fn core_of_five(
             d,
             e,
         ),
-        FiveChildren::Let => {
-            let mutable = is_mutable(bench.label(b), name);
-            let (annotation, value) = bench.two_children(d, e)?;
-            bench.push(Form::Let {
-                start,
-                mutable,
-                name,
-                annotation,
-                value,
-            })
-        }
-        FiveChildren::TraitMethod => {
-            let (words, parameters, result) = bench.three_children(b, d, e)?;
-            bench.push(Form::TraitMethod {
-                start,
-                words,
-                name,
-                parameters,
-                result,
-            })
-        }
+        FiveChildren::Let => variable(bench, start, b, name, d, e),
+        FiveChildren::TraitMethod => trait_method(bench, start, b, name, d, e),
     }
 }
 

@@ -5,6 +5,7 @@ ghost use Rattle.ink_core.specs.Built as built;
 ghost use Rattle.ink_core.specs.Known.{at};
 ghost use Rattle.ink_core.specs.Pile.{top, rest};
 ghost use Rattle.ink_core.specs.Texts as spec;
+ghost use Rattle.ink_core.specs.Changes.{Leaves};
 
 use crate::bench::Bench;
 use crate::form::{Form, FormId, Literal, Selector};
@@ -40,8 +41,7 @@ fn take_items(bench: &mut Bench, list: FormId) -> Result<u32, AllocError>
 
 /// Makes a text of the item on top.
 fn piece(bench: &mut Bench, quote: u32) -> Result<(), AllocError>
-    ensures taken { OnOk result (view.taken bench.new ≡ spec.piece quote (top (view.taken bench.old)) ∷ rest (view.taken bench.old)) }
-    ensures known { OnOk result (view.known bench.new ≡ view.known bench.old) }
+    ensures { OnOk result (Leaves bench.old bench.new (spec.piece quote (top (view.taken bench.old)) ∷ rest (view.taken bench.old))) }
 {
     let item = bench.pop();
     if let Looked::Word(part) = bench.look(item) {
@@ -57,8 +57,7 @@ fn piece(bench: &mut Bench, quote: u32) -> Result<(), AllocError>
 
 /// Makes one text of the text on top and the item below it.
 fn join(bench: &mut Bench, quote: u32) -> Result<(), AllocError>
-    ensures taken { OnOk result (view.taken bench.new ≡ spec.join quote (view.taken bench.old)) }
-    ensures known { OnOk result (view.known bench.new ≡ view.known bench.old) }
+    ensures { OnOk result (Leaves bench.old bench.new (spec.join quote (view.taken bench.old))) }
 {
     bench.push(Form::Empty)?;
     bench.raise_third()?;

@@ -6,7 +6,9 @@ ghost use Rattle.ink_core.specs.Known.{at};
 ghost use Rattle.ink_core.specs.Pile.{top, rest};
 ghost use Rattle.ink_core.specs.Forms as spec;
 ghost use Rattle.ink_core.specs.Sights as sights;
+ghost use Rattle.ink_core.specs.declared.form.Literal.TheVariants as literal;
 ghost use Rattle.ink_core.specs.declared.form.Selector.TheVariants as method;
+ghost use Rattle.ink_core.specs.Changes.{Leaves, Takes};
 
 use crate::bench::Bench;
 use crate::choices::{and, or};
@@ -19,8 +21,7 @@ use std::alloc::AllocError;
 
 /// A list of one.
 pub(crate) fn list_of_one(bench: &mut Bench, a: u32) -> Result<(), AllocError>
-    ensures taken { OnOk result (view.taken bench.new ≡ spec.list_of_one (at (view.known bench.old) a).core ∷ view.taken bench.old) }
-    ensures known { OnOk result (view.known bench.new ≡ view.known bench.old) }
+    ensures { OnOk result (Takes bench.old bench.new (spec.list_of_one (at (view.known bench.old) a).core)) }
 {
     bench.push(Form::Empty)?;
     bench.take(a)?;
@@ -29,8 +30,7 @@ pub(crate) fn list_of_one(bench: &mut Bench, a: u32) -> Result<(), AllocError>
 
 /// A list of two.
 pub(crate) fn list_of_two(bench: &mut Bench, a: u32, b: u32) -> Result<(), AllocError>
-    ensures taken { OnOk result (view.taken bench.new ≡ spec.list_of_two (at (view.known bench.old) a).core (at (view.known bench.old) b).core ∷ view.taken bench.old) }
-    ensures known { OnOk result (view.known bench.new ≡ view.known bench.old) }
+    ensures { OnOk result (Takes bench.old bench.new (spec.list_of_two (at (view.known bench.old) a).core (at (view.known bench.old) b).core)) }
 {
     list_of_one(bench, a)?;
     bench.take(b)?;
@@ -39,8 +39,7 @@ pub(crate) fn list_of_two(bench: &mut Bench, a: u32, b: u32) -> Result<(), Alloc
 
 /// A list of three.
 pub(crate) fn list_of_three(bench: &mut Bench, a: u32, b: u32, c: u32) -> Result<(), AllocError>
-    ensures taken { OnOk result (view.taken bench.new ≡ spec.list_of_three (at (view.known bench.old) a).core (at (view.known bench.old) b).core (at (view.known bench.old) c).core ∷ view.taken bench.old) }
-    ensures known { OnOk result (view.known bench.new ≡ view.known bench.old) }
+    ensures { OnOk result (Takes bench.old bench.new (spec.list_of_three (at (view.known bench.old) a).core (at (view.known bench.old) b).core (at (view.known bench.old) c).core)) }
 {
     list_of_two(bench, a, b)?;
     bench.take(c)?;
@@ -49,8 +48,7 @@ pub(crate) fn list_of_three(bench: &mut Bench, a: u32, b: u32, c: u32) -> Result
 
 /// Makes a new object of the arguments on top.
 pub(crate) fn close_new(bench: &mut Bench, start: u32, made: Constructed) -> Result<(), AllocError>
-    ensures taken { OnOk result (view.taken bench.new ≡ core.New start made (top (view.taken bench.old)) ∷ rest (view.taken bench.old)) }
-    ensures known { OnOk result (view.known bench.new ≡ view.known bench.old) }
+    ensures { OnOk result (Leaves bench.old bench.new (core.New start made (top (view.taken bench.old)) ∷ rest (view.taken bench.old))) }
 {
     let arguments = bench.pop();
     bench.push(Form::New {
@@ -78,8 +76,7 @@ pub(crate) fn constructed_with(
     name: u32,
     arguments: u32,
 ) -> Result<(), AllocError>
-    ensures taken { OnOk result (view.taken bench.new ≡ core.New start (sights.made_of (at (view.known bench.old) name).label) (at (view.known bench.old) arguments).core ∷ view.taken bench.old) }
-    ensures known { OnOk result (view.known bench.new ≡ view.known bench.old) }
+    ensures { OnOk result (Takes bench.old bench.new (core.New start (sights.made_of (at (view.known bench.old) name).label) (at (view.known bench.old) arguments).core)) }
 {
     let made = made_of(bench.label(name));
     bench.take(arguments)?;
@@ -88,8 +85,7 @@ pub(crate) fn constructed_with(
 
 /// Makes a call of the receiver and the arguments on top.
 pub(crate) fn close_call(bench: &mut Bench, start: u32, method: Selector) -> Result<(), AllocError>
-    ensures taken { OnOk result (view.taken bench.new ≡ core.Call start method (top (rest (view.taken bench.old))) (top (view.taken bench.old)) ∷ rest (rest (view.taken bench.old))) }
-    ensures known { OnOk result (view.known bench.new ≡ view.known bench.old) }
+    ensures { OnOk result (Leaves bench.old bench.new (core.Call start method (top (rest (view.taken bench.old))) (top (view.taken bench.old)) ∷ rest (rest (view.taken bench.old)))) }
 {
     let arguments = bench.pop();
     let receiver = bench.pop();
@@ -109,8 +105,7 @@ pub(crate) fn called(
     name: Terminal,
     arguments: u32,
 ) -> Result<(), AllocError>
-    ensures taken { OnOk result (view.taken bench.new ≡ spec.called source.now name (at (view.known bench.old) arguments).core ∷ view.taken bench.old) }
-    ensures known { OnOk result (view.known bench.new ≡ view.known bench.old) }
+    ensures { OnOk result (Takes bench.old bench.new (spec.called source.now name (at (view.known bench.old) arguments).core)) }
 {
     let is_panic = is_spelled(source, name, b"panic");
     bench.take(arguments)?;
@@ -142,8 +137,7 @@ pub(crate) fn linked(
     base: u32,
     name: Terminal,
 ) -> Result<(), AllocError>
-    ensures taken { OnOk result (view.taken bench.new ≡ spec.linked start (spec.owner_of (at (view.known bench.old) base).label) (at (view.known bench.old) base).core name ∷ view.taken bench.old) }
-    ensures known { OnOk result (view.known bench.new ≡ view.known bench.old) }
+    ensures { OnOk result (Takes bench.old bench.new (spec.linked start (spec.owner_of (at (view.known bench.old) base).label) (at (view.known bench.old) base).core name)) }
 {
     match owner_of(bench.label(base)) {
         Some(owner) => {
@@ -167,8 +161,7 @@ pub(crate) fn field(
     base: u32,
     name: Terminal,
 ) -> Result<(), AllocError>
-    ensures taken { OnOk result (view.taken bench.new ≡ core.Field start name (at (view.known bench.old) base).core ∷ view.taken bench.old) }
-    ensures known { OnOk result (view.known bench.new ≡ view.known bench.old) }
+    ensures { OnOk result (Takes bench.old bench.new (core.Field start name (at (view.known bench.old) base).core)) }
 {
     bench.take(base)?;
     let base = bench.pop();
@@ -183,8 +176,7 @@ pub(crate) fn linked_call(
     name: Terminal,
     arguments: u32,
 ) -> Result<(), AllocError>
-    ensures taken { OnOk result (view.taken bench.new ≡ spec.linked_call start (spec.owner_of (at (view.known bench.old) base).label) (at (view.known bench.old) base).core name (at (view.known bench.old) arguments).core ∷ view.taken bench.old) }
-    ensures known { OnOk result (view.known bench.new ≡ view.known bench.old) }
+    ensures { OnOk result (Takes bench.old bench.new (spec.linked_call start (spec.owner_of (at (view.known bench.old) base).label) (at (view.known bench.old) base).core name (at (view.known bench.old) arguments).core)) }
 {
     match owner_of(bench.label(base)) {
         Some(owner) => {
@@ -214,8 +206,7 @@ pub(crate) fn operated(
     a: u32,
     b: u32,
 ) -> Result<(), AllocError>
-    ensures taken { OnOk result (view.taken bench.new ≡ spec.operated start sign.shape sign (at (view.known bench.old) a).core (at (view.known bench.old) b).core ∷ view.taken bench.old) }
-    ensures known { OnOk result (view.known bench.new ≡ view.known bench.old) }
+    ensures { OnOk result (Takes bench.old bench.new (spec.operated start sign.shape sign (at (view.known bench.old) a).core (at (view.known bench.old) b).core)) }
 {
     match sign.shape {
         Shape::Keyword(Keyword::And) => and(bench, start, sign.start, a, b),
@@ -230,8 +221,7 @@ pub(crate) fn operated(
 
 /// The value of `p += e` and its like: the place is the receiver.
 fn changed(bench: &mut Bench, sign: Terminal, place: u32, value: u32) -> Result<(), AllocError>
-    ensures taken { OnOk result (view.taken bench.new ≡ core.Call sign.start (method.OperatorOf sign) (at (view.known bench.old) place).core (spec.list_of_one (at (view.known bench.old) value).core) ∷ view.taken bench.old) }
-    ensures known { OnOk result (view.known bench.new ≡ view.known bench.old) }
+    ensures { OnOk result (Takes bench.old bench.new (core.Call sign.start (method.OperatorOf sign) (at (view.known bench.old) place).core (spec.list_of_one (at (view.known bench.old) value).core))) }
 {
     bench.take(place)?;
     list_of_one(bench, value)?;
@@ -240,8 +230,7 @@ fn changed(bench: &mut Bench, sign: Terminal, place: u32, value: u32) -> Result<
 
 /// Makes a write of the place and the value on top.
 fn close_set(bench: &mut Bench, start: u32, operator: u32) -> Result<(), AllocError>
-    ensures taken { OnOk result (view.taken bench.new ≡ core.Set start operator (top (rest (view.taken bench.old))) (top (view.taken bench.old)) ∷ rest (rest (view.taken bench.old))) }
-    ensures known { OnOk result (view.known bench.new ≡ view.known bench.old) }
+    ensures { OnOk result (Leaves bench.old bench.new (core.Set start operator (top (rest (view.taken bench.old))) (top (view.taken bench.old)) ∷ rest (rest (view.taken bench.old)))) }
 {
     let value = bench.pop();
     let place = bench.pop();
@@ -262,8 +251,7 @@ pub(crate) fn assigned(
     place: u32,
     value: u32,
 ) -> Result<(), AllocError>
-    ensures taken { OnOk result (view.taken bench.new ≡ spec.assigned start sign.shape sign (at (view.known bench.old) place).core (at (view.known bench.old) value).core ∷ view.taken bench.old) }
-    ensures known { OnOk result (view.known bench.new ≡ view.known bench.old) }
+    ensures { OnOk result (Takes bench.old bench.new (spec.assigned start sign.shape sign (at (view.known bench.old) place).core (at (view.known bench.old) value).core)) }
 {
     bench.take(place)?;
     match sign.shape {
@@ -289,28 +277,54 @@ pub(crate) fn assigned(
     }
 }
 
-/// A return, without or with a value.
-pub(crate) fn returned(bench: &mut Bench, start: u32, value: u32) -> Result<(), AllocError>
-    ensures taken { OnOk result (view.taken bench.new ≡ spec.return start (at (view.known bench.old) value).label (at (view.known bench.old) value).core ∷ view.taken bench.old) }
-    ensures known { OnOk result (view.known bench.new ≡ view.known bench.old) }
+/// A return without a value.
+fn returned_nil(bench: &mut Bench, start: u32) -> Result<(), AllocError>
+    ensures { OnOk result (Takes bench.old bench.new (core.Return start (core.Lit start literal.Nil))) }
 {
-    match bench.label(value) {
-        Label::Absent => bench.push(Form::Lit {
-            start,
-            literal: Literal::Nil,
-        })?,
-        _ => bench.take(value)?,
-    }
+    bench.push(Form::Lit {
+        start,
+        literal: Literal::Nil,
+    })?;
     let value = bench.pop();
     bench.push(Form::Return { start, value })
 }
 
+/// A return, without or with a value.
+pub(crate) fn returned(bench: &mut Bench, start: u32, value: u32) -> Result<(), AllocError>
+    ensures { OnOk result (Takes bench.old bench.new (spec.return start (at (view.known bench.old) value).label (at (view.known bench.old) value).core)) }
+{
+    match bench.label(value) {
+        Label::Absent => returned_nil(bench, start),
+        _ => {
+            let value = bench.child(value)?;
+            bench.push(Form::Return { start, value })
+        }
+    }
+}
+
 /// The kind of a borrow, by its word.
-pub(crate) fn borrow_kind(shape: Shape) -> BorrowKind
+fn borrow_kind(shape: Shape) -> BorrowKind
     ensures { result ≡ spec.borrow_kind shape }
 {
     match shape {
         Shape::Keyword(Keyword::Mut) => BorrowKind::Mut,
         _ => BorrowKind::Ref,
     }
+}
+
+/// A borrow, by its word.
+pub(crate) fn borrowed(
+    bench: &mut Bench,
+    start: u32,
+    word: Terminal,
+    operand: u32,
+) -> Result<(), AllocError>
+    ensures { OnOk result (Takes bench.old bench.new (core.Borrow start (spec.borrow_kind word.shape) (at (view.known bench.old) operand).core)) }
+{
+    let operand = bench.child(operand)?;
+    bench.push(Form::Borrow {
+        start,
+        kind: borrow_kind(word.shape),
+        operand,
+    })
 }

@@ -85,19 +85,32 @@ pub(crate) fn line(form: Form) -> Line {
             literal: written,
         } => leaf(literal(written), Item::At(start)),
         Form::Var(name) => leaf(token(name), Item::Nothing),
+        Form::Word(name) => leaf(token(name), Item::Nothing),
         Form::SelfValue { start } => leaf(word(b"self"), Item::At(start)),
+        Form::Wildcard { start } => leaf(word(b"_"), Item::At(start)),
         Form::Field { start, name, base } => one(b"field", start, token(name), base),
-        Form::Borrow {
-            start,
-            kind,
-            operand,
-        } => one(borrow(kind), start, NONE, operand),
         Form::New {
             start,
             made,
             arguments,
         } => one(b"new", start, constructed(made), arguments),
         Form::Arr { start, items } => one(b"array", start, NONE, items),
+        Form::Named { name, value } => named(
+            name,
+            [Item::Form(value), Item::Nothing, Item::Nothing],
+        ),
+        _ => operation(form),
+    }
+}
+
+/// How what works on values is listed.
+fn operation(form: Form) -> Line {
+    match form {
+        Form::Borrow {
+            start,
+            kind,
+            operand,
+        } => one(borrow(kind), start, NONE, operand),
         Form::Call {
             start,
             method,
@@ -116,17 +129,13 @@ pub(crate) fn line(form: Form) -> Line {
             [Item::Token(owner), Item::Token(name)],
             arguments,
         ),
-        Form::Named { name, value } => named(
-            name,
-            [Item::Form(value), Item::Nothing, Item::Nothing],
-        ),
-        Form::Wildcard { start } => leaf(word(b"_"), Item::At(start)),
-        Form::Word(name) => leaf(token(name), Item::Nothing),
+        Form::Recover { start, operand } => one(b"recover", start, NONE, operand),
+        Form::Panic { start, arguments } => one(b"panic", start, NONE, arguments),
         _ => statement(form),
     }
 }
 
-/// How what stands as a statement or leads elsewhere is listed.
+/// How what stands as a statement is listed.
 fn statement(form: Form) -> Line {
     match form {
         Form::Statement { start, value } => one(b"statement", start, NONE, value),
@@ -160,6 +169,13 @@ fn statement(form: Form) -> Line {
             annotation,
             value,
         } => two(let_word(mutable), start, token(name), [annotation, value]),
+        _ => choice_line(form),
+    }
+}
+
+/// How what leads elsewhere is listed.
+fn choice_line(form: Form) -> Line {
+    match form {
         Form::Block {
             start,
             end,
@@ -184,14 +200,12 @@ fn statement(form: Form) -> Line {
         Form::Break { start } => leaf(word(b"break"), Item::At(start)),
         Form::Next { start } => leaf(word(b"next"), Item::At(start)),
         Form::Return { start, value } => one(b"return", start, NONE, value),
-        Form::Recover { start, operand } => one(b"recover", start, NONE, operand),
-        Form::Panic { start, arguments } => one(b"panic", start, NONE, arguments),
-        _ => declaration(form),
+        _ => pattern(form),
     }
 }
 
-/// How a part of a pattern, a type or a declaration is listed.
-fn declaration(form: Form) -> Line {
+/// How a part of a pattern or a type is listed.
+fn pattern(form: Form) -> Line {
     match form {
         Form::Either {
             start,
@@ -213,6 +227,13 @@ fn declaration(form: Form) -> Line {
             [Item::Form(bare), Item::Nothing, Item::Nothing],
         ),
         Form::TupleType { start, parts } => one(b"tuple", start, NONE, parts),
+        _ => declaration(form),
+    }
+}
+
+/// How a module or a part of a declaration is listed.
+fn declaration(form: Form) -> Line {
+    match form {
         Form::Module {
             imports,
             declarations,
@@ -241,14 +262,14 @@ fn declaration(form: Form) -> Line {
                 ],
             )
         }
+        Form::Constructor { start, name, types } => one(b"case", start, token(name), types),
         _ => member(form),
     }
 }
 
-/// How a declaration is listed.
+/// How a member of a type is listed.
 fn member(form: Form) -> Line {
     match form {
-        Form::Constructor { start, name, types } => one(b"case", start, token(name), types),
         Form::FieldDeclaration {
             start,
             words,
@@ -274,6 +295,13 @@ fn member(form: Form) -> Line {
             name,
             methods,
         } => two(b"trait", start, token(name), [words, methods]),
+        _ => type_line(form),
+    }
+}
+
+/// How a declaration is listed, and nothing of any other form.
+fn type_line(form: Form) -> Line {
+    match form {
         Form::Implementation {
             start,
             name,

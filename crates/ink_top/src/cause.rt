@@ -66,7 +66,7 @@ impl Cause {
 }
 
 /// One line of two parts.
-fn line(alloc: Global, front: &[u8], back: &[u8]) -> Result<Vec<u8>, AllocError>
+pub(crate) fn line(alloc: Global, front: &[u8], back: &[u8]) -> Result<Vec<u8>, AllocError>
     ensures { IfOk result (λ text. text.items ≡ front.now ++ back.now ++ 10 ∷ []) }
 {
     let mut text = Vec::from_slice(alloc, front)?;

@@ -5,6 +5,7 @@ ghost use Rattle.ink_top.specs.Runs.{Prints, Runs, state_of};
 ghost use Rattle.ink_top.specs.World.{line_of};
 ghost use Rattle.ink_top.specs.declared.run.RunFault.TheVariants.{SinkFailed, OutOfMemory};
 
+use crate::cause::line;
 use ink_base::{Failed, Journal, Sink, Text, write_whole};
 use std::alloc::{AllocError, AllocFailed, Global};
 
@@ -12,7 +13,7 @@ use std::alloc::{AllocError, AllocFailed, Global};
 const MAIN: u32 = 1;
 
 /// Why a run ended before its module did.
-#[derive(Clone, Copy, Debug, PartialEq, Eq)]
+#[derive(Clone, Copy)]
 pub enum RunFault {
     SinkFailed,
     OutOfMemory,
@@ -46,9 +47,7 @@ impl From<Failed> for RunFault {
 fn line_of(alloc: Global, text: &Text) -> Result<Vec<u8>, AllocError>
     ensures { IfOk result (λ line. line.items ≡ line_of text.now) }
 {
-    let mut line = Vec::from_slice(alloc, text.bytes())?;
-    line.push(b'\n')?;
-    Ok(line)
+    line(alloc, text.bytes(), b"")
 }
 
 /// Prints a text: all memory is taken first, then the entry is made, then the bytes go out in one piece.
