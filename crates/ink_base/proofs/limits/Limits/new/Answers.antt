@@ -1,4 +1,4 @@
-use Rattle.std.proofs.Common.{◌≡◌, ℕ, ◌<◌, sym, subst, arith}
+use Rattle.std.proofs.Common.{ℕ, ◌<◌, sym, subst, arith}
 use Rattle.ink_base.specs.Limits.{IsInRangeAt}
 use Rattle.ink_base.proofs.LimitLemmas.{index_at}
 use Rattle.ink_base.proofs.limits.Limits.new.Goals as goal
