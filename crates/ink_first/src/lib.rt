@@ -5,8 +5,6 @@
 
 mod form;
 mod plain;
-#[cfg(test)]
-mod tests;
 mod words;
 
 pub use form::first_form;

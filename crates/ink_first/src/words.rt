@@ -3,7 +3,7 @@ use ink_base::TokenKind;
 use std::marker::Model;
 
 /// What a token has to be: its kind and its bytes.
-#[derive(Debug, Drop)]
+#[derive(Drop)]
 pub(crate) struct Word {
     pub(crate) kind: TokenKind,
     pub(crate) text: &'static [u8],
@@ -17,122 +17,48 @@ impl Model for Word {
     ghost view = { λ w. record { kind = w.kind; text = w.text.now } };
 }
 
+/// A kind and its bytes.
+macro_rules! word {
+    ($kind:ident $text:literal) => {
+        Word {
+            kind: TokenKind::$kind,
+            text: $text,
+        }
+    };
+}
+
 /// The tokens before the statements.
 pub(crate) const HEAD: [Word; 15] = [
-    Word {
-        kind: TokenKind::Keyword,
-        text: b"import",
-    },
-    Word {
-        kind: TokenKind::Name,
-        text: b"std",
-    },
-    Word {
-        kind: TokenKind::Symbol,
-        text: b".",
-    },
-    Word {
-        kind: TokenKind::Name,
-        text: b"stdio",
-    },
-    Word {
-        kind: TokenKind::Symbol,
-        text: b"(",
-    },
-    Word {
-        kind: TokenKind::Const,
-        text: b"Stdout",
-    },
-    Word {
-        kind: TokenKind::Symbol,
-        text: b")",
-    },
-    Word {
-        kind: TokenKind::Keyword,
-        text: b"type",
-    },
-    Word {
-        kind: TokenKind::Keyword,
-        text: b"async",
-    },
-    Word {
-        kind: TokenKind::Const,
-        text: b"Main",
-    },
-    Word {
-        kind: TokenKind::Symbol,
-        text: b"{",
-    },
-    Word {
-        kind: TokenKind::Keyword,
-        text: b"fn",
-    },
-    Word {
-        kind: TokenKind::Keyword,
-        text: b"async",
-    },
-    Word {
-        kind: TokenKind::Name,
-        text: b"main",
-    },
-    Word {
-        kind: TokenKind::Symbol,
-        text: b"{",
-    },
+    word!(Keyword b"import"),
+    word!(Name b"std"),
+    word!(Symbol b"."),
+    word!(Name b"stdio"),
+    word!(Symbol b"("),
+    word!(Const b"Stdout"),
+    word!(Symbol b")"),
+    word!(Keyword b"type"),
+    word!(Keyword b"async"),
+    word!(Const b"Main"),
+    word!(Symbol b"{"),
+    word!(Keyword b"fn"),
+    word!(Keyword b"async"),
+    word!(Name b"main"),
+    word!(Symbol b"{"),
 ];
 
 /// The tokens of a statement before its text.
 pub(crate) const CALL: [Word; 7] = [
-    Word {
-        kind: TokenKind::Const,
-        text: b"Stdout",
-    },
-    Word {
-        kind: TokenKind::Symbol,
-        text: b".",
-    },
-    Word {
-        kind: TokenKind::Name,
-        text: b"new",
-    },
-    Word {
-        kind: TokenKind::Symbol,
-        text: b".",
-    },
-    Word {
-        kind: TokenKind::Name,
-        text: b"print",
-    },
-    Word {
-        kind: TokenKind::Symbol,
-        text: b"(",
-    },
-    Word {
-        kind: TokenKind::Quote,
-        text: b"'",
-    },
+    word!(Const b"Stdout"),
+    word!(Symbol b"."),
+    word!(Name b"new"),
+    word!(Symbol b"."),
+    word!(Name b"print"),
+    word!(Symbol b"("),
+    word!(Quote b"'"),
 ];
 
 /// The tokens of a statement behind its text.
-pub(crate) const CLOSE: [Word; 2] = [
-    Word {
-        kind: TokenKind::Quote,
-        text: b"'",
-    },
-    Word {
-        kind: TokenKind::Symbol,
-        text: b")",
-    },
-];
+pub(crate) const CLOSE: [Word; 2] = [word!(Quote b"'"), word!(Symbol b")")];
 
 /// The tokens behind the statements.
-pub(crate) const TAIL: [Word; 2] = [
-    Word {
-        kind: TokenKind::Symbol,
-        text: b"}",
-    },
-    Word {
-        kind: TokenKind::Symbol,
-        text: b"}",
-    },
-];
+pub(crate) const TAIL: [Word; 2] = [word!(Symbol b"}"), word!(Symbol b"}")];

@@ -7,8 +7,7 @@ use Rattle.ink_base.specs.declared.row.Kind.TheVariants as kind
 use Rattle.ink_base.specs.declared.row.Slot.{Slot}
 use Rattle.ink_base.specs.declared.row.Slot.TheVariants as slot
 use Rattle.ink_base.specs.Rows.{Row}
-use Rattle.ink_prims.specs.Row.{kind_place}
-use Rattle.std.specs.Prelude.{◌==◌}
+use Rattle.ink_prims.specs.Row.{is_same_kind}
 
 abbrev pub is_int : Slot → Bool
 is_int slot.Int = true
@@ -56,16 +55,16 @@ abbrev pub same : Bool → Bool → Bool
 same true other = other
 same false other = not other
 
--- whether a row has a name of 1 to 16 bytes, at most two operands, all of slots that its receiver takes, and a result
+-- whether a row has a name that isn't empty, at most two operands, all of slots that its receiver takes, and a result
 -- that is fresh exactly where it is an Option that the row makes, and borrows exactly where that is of a borrow
 abbrev pub keeps_rule : Row → Bool
 keeps_rule row =
-    nat_lt 0 (length row.name) && nat_le (length row.name) 16 && nat_le (length row.operands) 2
+    nat_lt 0 (length row.name) && nat_le (length row.operands) 2
     && list_all (goes_into row.receiver) row.operands && same row.fresh (is_made row.result) && same row.borrows (is_lent row.result)
 
 -- whether two rows are one method: of one type, and of one name
 abbrev pub is_same_method : Row → Row → Bool
-is_same_method one other = bytes_eq one.name other.name && kind_place one.receiver == kind_place other.receiver
+is_same_method one other = bytes_eq one.name other.name && is_same_kind one.receiver other.receiver
 
 -- whether no method stands twice
 abbrev pub are_apart : List Row → Bool

@@ -9,5 +9,5 @@ mod row;
 mod rows;
 mod table;
 
-pub use row::{Row, Word};
-pub use table::PrimTable;
+pub use row::Row;
+pub use table::{number_of, row_at};

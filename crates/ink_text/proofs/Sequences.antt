@@ -170,13 +170,3 @@ StopsAt-from_IsValidUpTo bytes n valid = record {
       (subst IsUtf8 (sym (take_past bytes sequence rest n same)) (IsUtf8-append (take n bytes) sequence valid.front (sequence_utf8 sequence is)));
   longest = λ more past is. valid.longest more past (IsUtf8-from_Utf8 (take more bytes) is);
 }
-
--- there is at most one such byte
-pub StopsAt-same : (bytes : List ℕ) (a b : ℕ) → StopsAt bytes a → StopsAt bytes b → a ≡ b
-StopsAt-same bytes a b first second = elim (cases_lt a b) [
-  | inl under ↦ absurd (first.longest b under second.before)
-  | inr over ↦ elim (cases_lt b a) [
-    | inl under ↦ absurd (second.longest a under first.before)
-    | inr same ↦ omega (arith, over, same)
-  ]
-]

@@ -1,10 +1,17 @@
 -- Where a byte of a source stands.
-use Rattle.std.specs.Prelude.{ℕ, Bool, ◌+◌, ◌==◌, List, length, take, count_by}
+use Rattle.std.specs.Prelude.{ℕ, Bool, ◌+◌, ◌^◌, ◌==◌, List, length, take, count_by}
 use Rattle.std.specs.List.{after_last}
 use Rattle.ink_base.specs.declared.refusal.Place.{Place}
 
+-- the numbers of a place are below this one
+abbrev pub place_bound : ℕ
+place_bound = 2 ^ 32
+
+abbrev pub line_feed : ℕ
+line_feed = 10
+
 abbrev pub is_line_feed : ℕ → Bool
-is_line_feed byte = byte == 10
+is_line_feed byte = byte == line_feed
 
 -- one more than the line feeds in what stands before the byte
 abbrev pub line_behind : List ℕ → ℕ

@@ -1,6 +1,6 @@
 //! The line and the column of a byte.
-ghost use Rattle.std.specs.Prelude.{◌≡◌, ◌+◌, ◌<◌, ◌≤◌, ◌^◌, length};
-ghost use Rattle.ink_text.specs.Place.{place_at};
+ghost use Rattle.std.specs.Prelude.{◌≡◌, ◌+◌, ◌<◌, ◌≤◌, length};
+ghost use Rattle.ink_text.specs.Place.{place_at, place_bound};
 
 use ink_base::Place;
 
@@ -11,7 +11,7 @@ const LINE_FEED: u8 = b'\n';
 /// A line ends behind its line feed, and a carriage return is a byte of its line. It takes no memory.
 pub fn place_of(bytes: &[u8], byte: u32) -> Place
     requires inside { byte ≤ length bytes.now }
-    requires small { byte + 1 < 2 ^ 32 }
+    requires small { byte + 1 < place_bound }
     ensures { result ≡ place_at bytes.now byte }
 {
     let before = &bytes[..byte as usize];
@@ -26,46 +26,4 @@ pub fn place_of(bytes: &[u8], byte: u32) -> Place
         }
     }
     Place { line, column, byte }
-}
-
-#[cfg(test)]
-mod tests {
-    use super::*;
-
-    #[test]
-    fn counts_lines_and_columns(rt: HostRuntime) {
-        let source = b"ab\ncd\r\n\ne";
-        assert_eq!(rt; source.len(), 9);
-        for (byte, line, column) in [
-            (0, 1, 1),
-            (2, 1, 3),
-            (3, 2, 1),
-            (5, 2, 3),
-            (6, 2, 4),
-            (7, 3, 1),
-            (8, 4, 1),
-            (9, 4, 2),
-        ] {
-            assert!(rt; byte <= 9);
-            assert_eq!(rt; place_of(source, byte), Place { line, column, byte });
-        }
-        assert_eq!(rt; place_of(b"", 0), Place::START);
-    }
-
-    #[test]
-    fn counts_columns_in_bytes(rt: HostRuntime) {
-        let source = b"import std\xFF (((";
-        let wanted = Place {
-            line: 1,
-            column: 11,
-            byte: 10,
-        };
-        assert_eq!(rt; place_of(source, 10), wanted);
-        let behind = Place {
-            line: 1,
-            column: 3,
-            byte: 2,
-        };
-        assert_eq!(rt; place_of(b"\xC3\xA9a", 2), behind);
-    }
 }

@@ -1,52 +1,15 @@
 -- The limits by their options, and the numbers that they may have.
-use Rattle.std.proofs.Common.{◌≡◌, ◌≢◌, ℕ, ◌^◌, ◌<◌, List, [], ◌∷◌, slice_index_or, slice_set, slice_index, suc, zero, length, lit≤, ◌⊎◌, inl, inr, Result, Ok, refl, sym, ap, ◌∙◌, subst, arith}
+use Rattle.std.proofs.Common.{◌≡◌, ℕ, ◌^◌, ◌<◌, slice_index_or, lit≤, Result, Ok, sym, ap, ◌∙◌, subst, arith}
 use Rattle.std.specs.Fmt.{decimal}
-use Rattle.std.proofs.lemmas.List.{get_or-set_same, get_or-set_other, length-set}
-use Rattle.std.proofs.lemmas.Bool.{cases_order}
 use Rattle.std.specs.Str.{IsUtf8}
 use Rattle.std.specs.Str.Parse.{ParsesUnsigned}
 use Rattle.std.proofs.lemmas.Str.{IsUtf8-from_ascii}
 use Rattle.std.proofs.lemmas.Fmt.{IsAscii-decimal, parse-decimal, decimal_injective}
-use Rattle.ink_base.specs.Limits.{index_of, option_word, IsInRange, IsInRangeAt, AreInRange, default_numbers}
+use Rattle.ink_base.specs.Limits.{all_limits, index_of, option_word, IsInRange}
+use Rattle.ink_base.proofs.LimitLemmas.{limit_at, index_below}
 use Rattle.ink_base.specs.declared.limits.Limit.{Limit}
 use Rattle.ink_base.specs.declared.limits.Limit.TheVariants.{Source, Height, Frames, Objects, Serial, Array, Text, Processes, Mailbox, Futures, Events, Local, Slice, Workers}
 use Rattle.ink_words.specs.Commands.{Word, IsNumber}
-
--- all limits, in their order
-abbrev pub all_limits : List Limit
-all_limits = Source ∷ Height ∷ Frames ∷ Objects ∷ Serial ∷ Array ∷ Text ∷ Processes ∷ Mailbox ∷ Futures ∷ Events ∷ Local ∷ Slice ∷ Workers ∷ []
-
-pub limit_at : (limit : Limit) → slice_index_or all_limits (index_of limit) Source ≡ limit
-limit_at Source = refl
-limit_at Height = refl
-limit_at Frames = refl
-limit_at Objects = refl
-limit_at Serial = refl
-limit_at Array = refl
-limit_at Text = refl
-limit_at Processes = refl
-limit_at Mailbox = refl
-limit_at Futures = refl
-limit_at Events = refl
-limit_at Local = refl
-limit_at Slice = refl
-limit_at Workers = refl
-
-pub index_below : (limit : Limit) → index_of limit < 14
-index_below Source = omega arith
-index_below Height = omega arith
-index_below Frames = omega arith
-index_below Objects = omega arith
-index_below Serial = omega arith
-index_below Array = omega arith
-index_below Text = omega arith
-index_below Processes = omega arith
-index_below Mailbox = omega arith
-index_below Futures = omega arith
-index_below Events = omega arith
-index_below Local = omega arith
-index_below Slice = omega arith
-index_below Workers = omega arith
 
 -- a word that is the option of none of them
 pub no_option : (word : Word) → ((k : ℕ) → k < 14 → word ≡ option_word (slice_index_or all_limits k Source) → ⊥) → (limit : Limit) → word ≡ option_word limit → ⊥
@@ -101,45 +64,3 @@ least Events = (lit≤ tt, lit≤ tt)
 least Local = (lit≤ tt, lit≤ tt)
 least Slice = (lit≤ tt, lit≤ tt)
 least Workers = (lit≤ tt, lit≤ tt)
-
--- each limit has a number in its range
-pub record AreNumbers (numbers : List ℕ) : Type 0 where
-  pub each : AreInRange numbers
-  pub all : length numbers ≡ 14
-
-default_at : (place : ℕ) → place < 14 → IsInRangeAt default_numbers place
-default_at zero below = (lit≤ tt, lit≤ tt)
-default_at (suc zero) below = (lit≤ tt, lit≤ tt)
-default_at (suc (suc zero)) below = (lit≤ tt, lit≤ tt)
-default_at (suc (suc (suc zero))) below = (lit≤ tt, lit≤ tt)
-default_at (suc (suc (suc (suc zero)))) below = (lit≤ tt, lit≤ tt)
-default_at (suc (suc (suc (suc (suc zero))))) below = (lit≤ tt, lit≤ tt)
-default_at (suc (suc (suc (suc (suc (suc zero)))))) below = (lit≤ tt, lit≤ tt)
-default_at (suc (suc (suc (suc (suc (suc (suc zero))))))) below = (lit≤ tt, lit≤ tt)
-default_at (suc (suc (suc (suc (suc (suc (suc (suc zero)))))))) below = (lit≤ tt, lit≤ tt)
-default_at (suc (suc (suc (suc (suc (suc (suc (suc (suc zero))))))))) below = (lit≤ tt, lit≤ tt)
-default_at (suc (suc (suc (suc (suc (suc (suc (suc (suc (suc zero)))))))))) below = (lit≤ tt, lit≤ tt)
-default_at (suc (suc (suc (suc (suc (suc (suc (suc (suc (suc (suc zero))))))))))) below = (lit≤ tt, lit≤ tt)
-default_at (suc (suc (suc (suc (suc (suc (suc (suc (suc (suc (suc (suc zero)))))))))))) below = (lit≤ tt, lit≤ tt)
-default_at (suc (suc (suc (suc (suc (suc (suc (suc (suc (suc (suc (suc (suc zero))))))))))))) below = (lit≤ tt, lit≤ tt)
-default_at (suc (suc (suc (suc (suc (suc (suc (suc (suc (suc (suc (suc (suc (suc more)))))))))))))) below = absurd (omega arith)
-
-pub default_are_numbers : AreNumbers default_numbers
-default_are_numbers = record { each = default_at; all = refl }
-
-differ : (a b : ℕ) → (a < b) ⊎ (b < a) → a ≢ b
-differ a b apart same = elim apart [ inl below ↦ omega (arith, below, same) | inr above ↦ omega (arith, above, same) ]
-
--- a number in its range in the place of another
-pub with_number_are_numbers : (limit : Limit) (number : ℕ) (numbers : List ℕ) → IsInRange limit number → AreNumbers numbers
-    → AreNumbers (slice_set numbers (index_of limit) number)
-with_number_are_numbers limit number numbers within are = record {
-  each = λ place below. elim (cases_order place (index_of limit)) [
-    | inl here ↦
-        let set : slice_index (slice_set numbers (index_of limit) number) place ≡ number =
-        ap (slice_index (slice_set numbers (index_of limit) number)) here ∙ get_or-set_same numbers (index_of limit) number 0 (omega (arith, index_below limit, are.all)) in
-        rw (set, here) within
-    | inr apart ↦ rw (get_or-set_other numbers (index_of limit) place number 0 (differ place (index_of limit) apart)) (are.each place below)
-  ];
-  all = length-set numbers (index_of limit) number ∙ are.all;
-}

@@ -1,5 +1,5 @@
 -- How words go on behind one of them, and where they leave the language.
-use Rattle.std.proofs.Common.{◌≡◌, ◌↔◌, ℕ, ◌+◌, ◌<◌, ◌≤◌, inl, inr, List, [], ◌∷◌, ◌++◌, suc, length, take, Option, None, Some, refl, sym, ap, ◌∙◌, subst, arith, lit≤, append_assoc, append-nil, IfSome, IfNone}
+use Rattle.std.proofs.Common.{◌≡◌, ◌↔◌, ℕ, ◌+◌, ◌<◌, ◌≤◌, inl, List, [], ◌∷◌, ◌++◌, suc, length, take, Option, None, Some, refl, sym, ap, ◌∙◌, subst, arith, lit≤, append_assoc, append-nil, IfSome, IfNone}
 use Rattle.std.specs.Prelude.{codes}
 use Rattle.std.proofs.lemmas.List.{take_all}
 use Rattle.std.specs.Fmt.{decimal}
@@ -8,7 +8,7 @@ use Rattle.ink_base.specs.declared.limits.Limit.{Limit}
 use Rattle.ink_words.specs.declared.command.Command.{Command}
 use Rattle.ink_words.specs.declared.command.Command.TheVariants as command
 use Rattle.ink_words.specs.Commands.{Asked, asked, IsOrder, IsCommand, IsWrongWord, command_word, Word, IsName, IsNumber, Given, no_arguments, with_file, with_number, Follows, Behind, AreRight, Begins, Leaves, GoesOn, GoesNowhere}
-use Rattle.ink_words.proofs.LimitLemmas.{one_number, least, AreNumbers, default_are_numbers, with_number_are_numbers}
+use Rattle.ink_words.proofs.LimitLemmas.{one_number, least}
 
 -- a number
 
@@ -33,20 +33,6 @@ reaches_next command front more word awaited next before behind reaches goes is 
       λ whole. (goes words last).0 ((reaches (word ∷ words) last).0 (subst (λ (w : List Word). Follows command None no_arguments w last) e whole)),
       λ rest. subst (λ (w : List Word). Follows command None no_arguments w last) (sym e) ((reaches (word ∷ words) last).1 ((goes words last).1 rest)),
     )
-
--- numbers stay in their ranges
-pub numbers_follow : (command : Command) (awaited : Option Limit) (before : Given) (words : List Word) (last : Given)
-    → Follows command awaited before words last → AreNumbers before.numbers → AreNumbers last.numbers
-numbers_follow command None before [] last follows are = subst (λ (g : Given). AreNumbers g.numbers) (sym follows) are
-numbers_follow command (Some limit) before [] last follows are = absurd follows
-numbers_follow command None before (word ∷ words) last follows are =
-    elim follows [
-      | inl it ↦ numbers_follow command None (with_file word before) words last it.2 are
-      | inr it ↦ numbers_follow command (Some it.0) before words last it.4 are
-    ]
-numbers_follow command (Some limit) before (word ∷ words) last follows are =
-    numbers_follow command None (with_number limit follows.0 before) words last follows.2
-    (with_number_are_numbers limit follows.0 before.numbers follows.1.0 are)
 
 -- words that end a command
 
@@ -156,11 +142,6 @@ only_behind command words right given file other limits past reaches has_file be
       some_injective Word other file (sym behind.2 ∙ ap (λ (g : Given). g.file) same ∙ has_file),
       sym behind.3 ∙ ap (λ (g : Given). g.numbers) same,
     )
-
-pub in_ranges : (command : Command) (words : List Word) (right : ℕ) (given : Given) → length words ≤ right
-    → Reaches command (take right words) None given → AreNumbers given.numbers
-in_ranges command words right given past reaches =
-    numbers_follow command None no_arguments words given ((ended command words right None given past reaches given).1 refl) default_are_numbers
 
 -- a fact for each command is one for this
 

@@ -1,7 +1,7 @@
 -- The language of the command line, and where words leave it.
 use Rattle.std.specs.Prelude.{◌≡◌, ◌≢◌, ◌↔◌, ℕ, ◌+◌, suc, ◌<◌, ◌≤◌, ◌⊎◌, Bool, true, false, List, [], ◌∷◌, ◌++◌, length, take, replicate, slice_index_or, slice_set, codes, Option, None, Some}
 use Rattle.std.specs.Fmt.{decimal}
-use Rattle.ink_base.specs.Limits.{index_of, default_numbers, option_word, IsInRange}
+use Rattle.ink_base.specs.Limits.{all_limits, index_of, default_numbers, option_word, IsInRange}
 use Rattle.ink_base.specs.declared.limits.Limit.{Limit}
 use Rattle.ink_base.specs.declared.limits.Limit.TheVariants.{Source, Height, Workers}
 use Rattle.ink_words.specs.declared.command.Command.{Command}
@@ -25,10 +25,13 @@ has_option command Height = true
 has_option command.Run Workers = true
 has_option command limit = false
 
+abbrev pub minus_sign : ℕ
+minus_sign = 45
+
 -- a file's name: it isn't empty, and doesn't begin with a minus sign
 abbrev pub IsName : Word → Type 0
 IsName [] = ⊥
-IsName (byte ∷ bytes) = byte ≢ 45
+IsName (byte ∷ bytes) = byte ≢ minus_sign
 
 -- the word is this number of a limit, in digits without a leading zero
 abbrev pub IsNumber : Limit → ℕ → Word → Type 0
@@ -42,7 +45,7 @@ pub record Given : Type 0 where
 
 -- before the first word each limit has its default
 abbrev pub no_arguments : Given
-no_arguments = record { file = None; given = replicate 14 false; numbers = default_numbers }
+no_arguments = record { file = None; given = replicate (length all_limits) false; numbers = default_numbers }
 
 abbrev pub with_file : Word → Given → Given
 with_file file before = record { file = Some file; given = before.given; numbers = before.numbers }

@@ -1,6 +1,6 @@
 //! The file and the options that stand behind a command.
 ghost use Rattle.std.specs.Prelude.{◌≡◌, IfSome, IfNone, Some, None, option_map};
-ghost use Rattle.ink_base.specs.Limits.{AreInRange};
+ghost use Rattle.ink_base.specs.Limits.{IsInRange};
 ghost use Rattle.ink_words.specs.declared.command.Command.{Command};
 ghost use Rattle.ink_words.specs.Commands.{no_arguments, with_file, with_number, is_given, GoesOn, GoesNowhere};
 
@@ -15,8 +15,7 @@ pub(crate) struct Arguments<'a> {
     file: Option<&'a Text>,
     /// Of each limit, in their order: whether its option was given.
     given: [bool; 14],
-    /// Of each limit, in their order: its number so far.
-    numbers: [u64; 14],
+    limits: Limits,
 }
 
 impl<'a> Model for Arguments<'a> {
@@ -25,7 +24,7 @@ impl<'a> Model for Arguments<'a> {
 
     ghost Value = { Given };
 
-    ghost view = { λ a. record { file = option_map (λ f. f.now) a.file; given = a.given; numbers = a.numbers } };
+    ghost view = { λ a. record { file = option_map (λ f. f.now) a.file; given = a.given; numbers = a.limits } };
 }
 
 impl<'a> Arguments<'a> {
@@ -36,22 +35,7 @@ impl<'a> Arguments<'a> {
         Arguments {
             file: None,
             given: [false; 14],
-            numbers: [
-                Limit::Source.default_number(),
-                Limit::Height.default_number(),
-                Limit::Frames.default_number(),
-                Limit::Objects.default_number(),
-                Limit::Serial.default_number(),
-                Limit::Array.default_number(),
-                Limit::Text.default_number(),
-                Limit::Processes.default_number(),
-                Limit::Mailbox.default_number(),
-                Limit::Futures.default_number(),
-                Limit::Events.default_number(),
-                Limit::Local.default_number(),
-                Limit::Slice.default_number(),
-                Limit::Workers.default_number(),
-            ],
+            limits: Limits::defaults(),
         }
     }
 
@@ -77,19 +61,19 @@ impl<'a> Arguments<'a> {
     }
 
     fn with_number(mut self, limit: Limit, number: u64) -> Arguments<'a>
+        requires { IsInRange limit number }
         ensures { result ≡ with_number limit number self.entry }
     {
         self.given[limit.index()] = true;
-        self.numbers[limit.index()] = number;
+        self.limits = self.limits.with(limit, number).unwrap();
         self
     }
 
     /// The limits as they were given.
     pub(crate) fn limits(&self) -> Limits
-        requires { AreInRange self.now.numbers }
         ensures { result ≡ self.now.numbers }
     {
-        Limits::new(self.numbers).unwrap()
+        self.limits
     }
 }
 

@@ -8,31 +8,13 @@ ghost use Rattle.ink_words.specs.declared.command.Command.{Command};
 use ink_base::{Limit, Text};
 
 /// What the first word asks for.
-#[derive(Clone, Copy, Debug, PartialEq, Eq)]
+#[derive(Clone, Copy)]
 pub enum Command {
     /// The module of a file is run.
     Run,
     /// The module of a file is printed.
     Print,
 }
-
-/// All limits, in their order.
-const LIMITS: [Limit; 14] = [
-    Limit::Source,
-    Limit::Height,
-    Limit::Frames,
-    Limit::Objects,
-    Limit::Serial,
-    Limit::Array,
-    Limit::Text,
-    Limit::Processes,
-    Limit::Mailbox,
-    Limit::Futures,
-    Limit::Events,
-    Limit::Local,
-    Limit::Slice,
-    Limit::Workers,
-];
 
 impl Command {
     /// The command that begins with this word.
@@ -66,7 +48,7 @@ pub(crate) fn option_of(word: &Text) -> Option<Limit>
     ensures some { IfSome result (λ limit. word.now ≡ option_word limit) }
     ensures none { IfNone result ((limit : Limit) → word.now ≡ option_word limit → ⊥) }
 {
-    for limit in LIMITS {
+    for limit in Limit::ALL {
         if word.is(limit.option().as_bytes()) {
             return Some(limit);
         }

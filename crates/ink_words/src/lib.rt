@@ -8,8 +8,6 @@ mod arguments;
 mod command;
 mod number;
 mod order;
-#[cfg(test)]
-mod tests;
 
 pub use command::Command;
 pub use order::{Order, read_words};

@@ -16,7 +16,7 @@ pub enum Order<'a> {
 }
 
 /// A word that no command has at its place, or that is missing there.
-#[derive(Clone, Copy, Debug, PartialEq, Eq)]
+#[derive(Clone, Copy)]
 struct WrongWord {
     /// How many right words stand before it.
     right: usize,

@@ -1,6 +1,6 @@
 use Rattle.std.proofs.Common.{◌≡◌, Some, sym, ap, ◌∙◌, option_map, None, take, ◌++◌, ◌∷◌, []}
 use Rattle.std.proofs.lemmas.List.{take_more}
-use Rattle.ink_words.proofs.WordLemmas.{reaches_next, wrong_word, words_missing, is_behind, only_behind, in_ranges}
+use Rattle.ink_words.proofs.WordLemmas.{reaches_next, wrong_word, words_missing, is_behind, only_behind}
 use Rattle.ink_words.proofs.order.behind_command.Goals as goal
 use Rattle.ink_words.proofs.order.behind_command.Goals.{in_default-2-via-in-None+in_default, in_default-2-via-in_default}
 
@@ -14,9 +14,6 @@ pub loop-right-preserved : goal.loop-right-preserved
 loop-right-preserved c =
     reaches_next c.args.command _ _ c.index-words-right.result _ _ _ _ c.loop-right.invariant c.in-Some.ensures.some
     (take_more c.args.words.now c.loop-right.right c.index-words-right.result c.loop-right-test.true ∙ ap (λ w. take c.loop-right.right c.args.words.now ++ w ∷ []) (sym c.index-words-right.is))
-
-pub limits-requires : goal.limits-requires
-limits-requires c = (in_ranges c.args.command c.args.words.now c.loop-right.right c.loop-right.progress.arguments c.loop-right-test.false (rw c.in-None-Some.is-0 at c.loop-right.invariant)).each
 
 pub returns-in-None-Some-clause-fits : goal.returns-in-None-Some-clause-fits
 returns-in-None-Some-clause-fits c = rw c.limits.ensures
