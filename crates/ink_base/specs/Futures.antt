@@ -61,13 +61,13 @@ is_ready (Set had) = true
 is_ready Broken = true
 is_ready Taken = false
 
-abbrev pub change_found : {V : Type 0} → Option (FutureState V) → Futures V → ℕ → (FutureState V → FutureState V) → Futures V
-change_found None futures number change = futures
-change_found (Some state) futures number change = set_numbered futures number (change state)
+abbrev pub change_at : {V : Type 0} → Option (FutureState V) → Futures V → ℕ → (FutureState V → FutureState V) → Futures V
+change_at None futures number change = futures
+change_at (Some state) futures number change = set_numbered futures number (change state)
 
 -- the futures after that of one number changed so; all as before where there is none
 abbrev pub changed_future : {V : Type 0} → Futures V → ℕ → (FutureState V → FutureState V) → Futures V
-changed_future futures number change = change_found (numbered futures number) futures number change
+changed_future futures number change = change_at (numbered futures number) futures number change
 
 -- the futures after one more was made, which is open
 abbrev pub after_make : {V : Type 0} → Futures V → Futures V
