@@ -1,8 +1,10 @@
 //! The operands of a row.
 #![tactic(auto, unfolding(ink_code::specs::Machine::after))]
 
-ghost use Rattle.std.specs.Prelude.{◌≡◌, Ok, Err, MatchResult};
-ghost use Rattle.ink_code.specs.Rows.{single, pair, int_of, place_in};
+ghost use Rattle.std.specs.Prelude.{◌≡◌, ℤ, Ok, Err, MatchResult};
+ghost use Rattle.ink_code.specs.IntRows.{of_ints};
+ghost use Rattle.ink_code.specs.Rows.{Computation, single, pair, int_of, place_in};
+ghost use Rattle.ink_rows.specs.Operands.{AreInts};
 ghost use Rattle.ink_code.specs.Moves.{truth_of, text_of};
 
 use ink_base::{Text, Value};
@@ -45,6 +47,19 @@ pub fn int_of(value: &Value) -> Result<i64, Wrong>
         Value::Int(number) => Ok(*number),
         _ => Err(Wrong::Kind),
     }
+}
+
+/// The numbers of two Ints.
+#[tactic(auto, unfolding(ink_code::specs::Machine::after))]
+pub(crate) fn ints(values: &[Value]) -> Result<(i64, i64), Wrong>
+    ensures { MatchResult result
+        (λ both. AreInts values.now both.0 both.1)
+        (λ why. (row : ℤ → ℤ → Computation) → of_ints values.now row ≡ Err why) }
+{
+    let (one, other) = pair(values)?;
+    let a = int_of(one)?;
+    let b = int_of(other)?;
+    Ok((a, b))
 }
 
 /// Whether a Bool is true.
