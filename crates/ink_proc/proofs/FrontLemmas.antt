@@ -13,28 +13,28 @@ pub front-push : {X : Type 0} (xs : List X) (x : X) → reverse (xs ++ x ∷ [])
 front-push xs x = reverse-append xs (x ∷ [])
 
 -- the last one stands in front
-pub front-last : {X : Type 0} (xs : List X) (place : ℕ) (x : X) → place + 1 ≡ length xs → x ≡ get_or xs place x → reverse xs ≡ x ∷ reverse (take place xs)
-front-last xs place x end is =
-    let split : take (place + 1) xs ≡ take place xs ++ get_or xs place x ∷ [] = (take_at_read xs place x (omega arith)).1 in
-    let whole : take (place + 1) xs ≡ xs = take_all (place + 1) xs (omega arith) in
-    ap reverse (sym whole ∙ split) ∙ front-push (take place xs) (get_or xs place x) ∙ ap (λ y. y ∷ reverse (take place xs)) (sym is)
+pub front-last : {X : Type 0} (xs : List X) (index : ℕ) (x : X) → index + 1 ≡ length xs → x ≡ get_or xs index x → reverse xs ≡ x ∷ reverse (take index xs)
+front-last xs index x end is =
+    let split : take (index + 1) xs ≡ take index xs ++ get_or xs index x ∷ [] = (take_at_read xs index x (omega arith)).1 in
+    let whole : take (index + 1) xs ≡ xs = take_all (index + 1) xs (omega arith) in
+    ap reverse (sym whole ∙ split) ∙ front-push (take index xs) (get_or xs index x) ∙ ap (λ y. y ∷ reverse (take index xs)) (sym is)
 
--- another one in the last place stands in front
-pub front-set : {X : Type 0} (xs : List X) (place : ℕ) (y : X) → place + 1 ≡ length xs → reverse (set xs place y) ≡ y ∷ reverse (take place xs)
-front-set xs place y end =
-    let whole : take (place + 1) (set xs place y) ≡ set xs place y = take_all (place + 1) (set xs place y) (omega (arith, length-set xs place y)) in
-    ap reverse (sym whole ∙ take-set_at xs place (place + 1) y refl (omega arith)) ∙ front-push (take place xs) y
+-- another one in the last index stands in front
+pub front-set : {X : Type 0} (xs : List X) (index : ℕ) (y : X) → index + 1 ≡ length xs → reverse (set xs index y) ≡ y ∷ reverse (take index xs)
+front-set xs index y end =
+    let whole : take (index + 1) (set xs index y) ≡ set xs index y = take_all (index + 1) (set xs index y) (omega (arith, length-set xs index y)) in
+    ap reverse (sym whole ∙ take-set_at xs index (index + 1) y refl (omega arith)) ∙ front-push (take index xs) y
 
 -- a register past the end
-pub register_past : (items seen : List Frame) → reverse items ≡ seen → (place number : ℕ) (frame : Frame) → place + 1 ≡ length items → frame ≡ get_or items place frame → length frame.registers ≤ number → register seen number ≡ None
+pub register_past : (items seen : List Frame) → reverse items ≡ seen → (index number : ℕ) (frame : Frame) → index + 1 ≡ length items → frame ≡ get_or items index frame → length frame.registers ≤ number → register seen number ≡ None
 unfolding register
-register_past items seen view place number frame end is past =
-    ap (λ frames. register frames number) (sym view ∙ front-last items place frame end is) ∙ slice_get_past frame.registers number past
+register_past items seen view index number frame end is past =
+    ap (λ frames. register frames number) (sym view ∙ front-last items index frame end is) ∙ slice_get_past frame.registers number past
 
 -- a register that is there
-pub register_there : (items seen : List Frame) → reverse items ≡ seen → (place number : ℕ) (frame : Frame) → place + 1 ≡ length items → frame ≡ get_or items place frame → number < length frame.registers → is_some (register seen number) ≡ true
+pub register_there : (items seen : List Frame) → reverse items ≡ seen → (index number : ℕ) (frame : Frame) → index + 1 ≡ length items → frame ≡ get_or items index frame → number < length frame.registers → is_some (register seen number) ≡ true
 unfolding register
-register_there items seen view place number frame end is low =
-    ap (λ frames. is_some (register frames number)) (sym view ∙ front-last items place frame end is) ∙ ap is_some (slice_get-get_or frame.registers number Empty low)
+register_there items seen view index number frame end is low =
+    ap (λ frames. is_some (register frames number)) (sym view ∙ front-last items index frame end is) ∙ ap is_some (slice_get-get_or frame.registers number Empty low)
 
 pub ruleset front = (front-push, front-last, front-set)

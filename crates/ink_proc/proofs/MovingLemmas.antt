@@ -21,38 +21,38 @@ abbrev pub behind : List Value → Parts → Parts
 behind values (Err why) = Err why
 behind values (Ok parts) = Ok (values ++ parts.0, parts.1)
 
-pub moved_stops : (values : List Value) (numbers : List ℕ) (place : ℕ) (registers : List Value) (why : Wrong) → place < length numbers → held (slice_get registers (get_or numbers place 0)) ≡ Err why → behind values (moved (drop place numbers) registers) ≡ Err why
-moved_stops values numbers place registers why low stops =
-    ap (λ rest. behind values (moved rest registers)) (drop-cons numbers place 0 low)
-    ∙ ap (λ first. behind values (with_first first (moved (drop (suc place) numbers) (set registers (get_or numbers place 0) Empty)))) stops
+pub moved_stops : (values : List Value) (numbers : List ℕ) (index : ℕ) (registers : List Value) (why : Wrong) → index < length numbers → held (slice_get registers (get_or numbers index 0)) ≡ Err why → behind values (moved (drop index numbers) registers) ≡ Err why
+moved_stops values numbers index registers why low stops =
+    ap (λ rest. behind values (moved rest registers)) (drop-cons numbers index 0 low)
+    ∙ ap (λ first. behind values (with_first first (moved (drop (suc index) numbers) (set registers (get_or numbers index 0) Empty)))) stops
 
 behind_first : (values : List Value) (value : Value) (parts : Parts) → behind values (with_first (Ok value) parts) ≡ behind (values ++ value ∷ []) parts
 behind_first values value (Err why) = refl
 behind_first values value (Ok parts) = ap (λ (all : List Value). Ok (all, parts.1)) (sym (append_assoc values (value ∷ []) parts.0))
 
-pub moved_more : (values : List Value) (numbers : List ℕ) (place : ℕ) (registers : List Value) (value : Value) → place < length numbers → held (slice_get registers (get_or numbers place 0)) ≡ Ok value → behind values (moved (drop place numbers) registers) ≡ behind (values ++ value ∷ []) (moved (drop (place + 1) numbers) (set registers (get_or numbers place 0) Empty))
-moved_more values numbers place registers value low goes =
-    ap (λ rest. behind values (moved rest registers)) (drop-cons numbers place 0 low)
-    ∙ ap (λ first. behind values (with_first first (moved (drop (suc place) numbers) (set registers (get_or numbers place 0) Empty)))) goes
+pub moved_more : (values : List Value) (numbers : List ℕ) (index : ℕ) (registers : List Value) (value : Value) → index < length numbers → held (slice_get registers (get_or numbers index 0)) ≡ Ok value → behind values (moved (drop index numbers) registers) ≡ behind (values ++ value ∷ []) (moved (drop (index + 1) numbers) (set registers (get_or numbers index 0) Empty))
+moved_more values numbers index registers value low goes =
+    ap (λ rest. behind values (moved rest registers)) (drop-cons numbers index 0 low)
+    ∙ ap (λ first. behind values (with_first first (moved (drop (suc index) numbers) (set registers (get_or numbers index 0) Empty)))) goes
     ∙ behind_first values value _
-    ∙ ap (λ next. behind (values ++ value ∷ []) (moved (drop next numbers) (set registers (get_or numbers place 0) Empty))) (sym (add-one place))
+    ∙ ap (λ next. behind (values ++ value ∷ []) (moved (drop next numbers) (set registers (get_or numbers index 0) Empty))) (sym (add-one index))
 
--- one more empty place leaves one less to come
+-- one more empty index leaves one less to come
 pub padded_next : (most : ℕ) (values : List Value) → length values < most → padded most (values ++ Empty ∷ []) ≡ padded most values
 padded_next most values low =
     let rest : ℕ = most - length (values ++ Empty ∷ []) in
     let less : most - length values ≡ suc rest = omega (arith, length-append values (Empty ∷ [])) in
     append_assoc values (Empty ∷ []) (replicate rest Empty) ∙ ap (λ count. values ++ replicate count Empty) (sym less)
 
--- where there are so many, no empty place comes
+-- where there are so many, no empty index comes
 pub padded_all : (most : ℕ) (values : List Value) → most ≤ length values → padded most values ≡ values
 padded_all most values enough =
     let none : most - length values ≡ 0 = omega arith in
     ap (λ count. values ++ replicate count Empty) none ∙ append-nil values
 
-wrong_place : (had : Option Value) → where_there {A = List Value} had (Err wrong.Absent) ≡ Err wrong.Absent
-wrong_place None = refl
-wrong_place (Some value) = refl
+wrong_absent : (had : Option Value) → where_there {A = List Value} had (Err wrong.Absent) ≡ Err wrong.Absent
+wrong_absent None = refl
+wrong_absent (Some value) = refl
 
 -- values and registers that are not as many
 pub given_apart : (numbers : List ℕ) (values registers : List Value) → length numbers ≢ length values → given_out numbers values registers ≡ Err wrong.Absent
@@ -61,7 +61,7 @@ given_apart [] (value ∷ values) registers differ = refl
 given_apart (number ∷ numbers) [] registers differ = refl
 given_apart (number ∷ numbers) (value ∷ values) registers differ =
     ap (where_there (slice_get registers number)) (given_apart numbers values (set registers number value) (λ same. differ (ap suc same)))
-    ∙ wrong_place (slice_get registers number)
+    ∙ wrong_absent (slice_get registers number)
 
 goes_on : (had : Option Value) (registers left : List Value) (rest : List Value → Result (List Value) Wrong) → where_there had (Ok registers) ≡ Ok left → where_there had (rest registers) ≡ rest left
 goes_on None registers left rest put = cc
@@ -72,30 +72,30 @@ stops None registers why rest put = cc
 stops (Some value) registers why rest put = cc
 
 -- the next value, and behind it those that are left
-pub left_of : (values : List Value) (place : ℕ) (value : Value) → slice_get values place ≡ Some value → value ∷ drop (place + 1) (set values place Empty) ≡ drop place values
-left_of values place value had =
-    let low : place < length values = slice_get_within values place value had in
-    let is : get_or values place Empty ≡ value = get_or_from_slice_get values place value Empty had in
-    ap (λ rest. value ∷ rest) (drop-set-lt (place + 1) values place Empty (omega arith))
-    ∙ ap (λ next. value ∷ drop next values) (add-one place)
-    ∙ ap (λ first. first ∷ drop (suc place) values) (sym is)
-    ∙ sym (drop-cons values place Empty low)
+pub left_of : (values : List Value) (index : ℕ) (value : Value) → slice_get values index ≡ Some value → value ∷ drop (index + 1) (set values index Empty) ≡ drop index values
+left_of values index value had =
+    let low : index < length values = slice_get_within values index value had in
+    let is : get_or values index Empty ≡ value = get_or_from_slice_get values index value Empty had in
+    ap (λ rest. value ∷ rest) (drop-set-lt (index + 1) values index Empty (omega arith))
+    ∙ ap (λ next. value ∷ drop next values) (add-one index)
+    ∙ ap (λ first. first ∷ drop (suc index) values) (sym is)
+    ∙ sym (drop-cons values index Empty low)
 
 -- the next register and the next value stand in front of what is left
-next_of : (numbers : List ℕ) (values registers : List Value) (place : ℕ) (value : Value) → place < length numbers → slice_get values place ≡ Some value → given_out (drop place numbers) (drop place values) registers ≡ where_there (slice_get registers (get_or numbers place 0)) (given_out (drop (place + 1) numbers) (drop (place + 1) (set values place Empty)) (set registers (get_or numbers place 0) value))
-next_of numbers values registers place value low had =
-    ap (λ rest. given_out rest (drop place values) registers) (drop-cons numbers place 0 low ∙ ap (λ next. get_or numbers place 0 ∷ drop next numbers) (sym (add-one place)))
-    ∙ ap (λ rest. given_out (get_or numbers place 0 ∷ drop (place + 1) numbers) rest registers) (sym (left_of values place value had))
+next_of : (numbers : List ℕ) (values registers : List Value) (index : ℕ) (value : Value) → index < length numbers → slice_get values index ≡ Some value → given_out (drop index numbers) (drop index values) registers ≡ where_there (slice_get registers (get_or numbers index 0)) (given_out (drop (index + 1) numbers) (drop (index + 1) (set values index Empty)) (set registers (get_or numbers index 0) value))
+next_of numbers values registers index value low had =
+    ap (λ rest. given_out rest (drop index values) registers) (drop-cons numbers index 0 low ∙ ap (λ next. get_or numbers index 0 ∷ drop next numbers) (sym (add-one index)))
+    ∙ ap (λ rest. given_out (get_or numbers index 0 ∷ drop (index + 1) numbers) rest registers) (sym (left_of values index value had))
 
-pub given_more : (numbers : List ℕ) (values registers left : List Value) (place : ℕ) (value : Value) → place < length numbers → slice_get values place ≡ Some value → given_out (get_or numbers place 0 ∷ []) (value ∷ []) registers ≡ Ok left → given_out (drop place numbers) (drop place values) registers ≡ given_out (drop (place + 1) numbers) (drop (place + 1) (set values place Empty)) left
-given_more numbers values registers left place value low had put =
-    next_of numbers values registers place value low had
-    ∙ goes_on (slice_get registers (get_or numbers place 0)) (set registers (get_or numbers place 0) value) left (λ there. given_out (drop (place + 1) numbers) (drop (place + 1) (set values place Empty)) there) put
+pub given_more : (numbers : List ℕ) (values registers left : List Value) (index : ℕ) (value : Value) → index < length numbers → slice_get values index ≡ Some value → given_out (get_or numbers index 0 ∷ []) (value ∷ []) registers ≡ Ok left → given_out (drop index numbers) (drop index values) registers ≡ given_out (drop (index + 1) numbers) (drop (index + 1) (set values index Empty)) left
+given_more numbers values registers left index value low had put =
+    next_of numbers values registers index value low had
+    ∙ goes_on (slice_get registers (get_or numbers index 0)) (set registers (get_or numbers index 0) value) left (λ there. given_out (drop (index + 1) numbers) (drop (index + 1) (set values index Empty)) there) put
 
-pub given_stops : (numbers : List ℕ) (values registers : List Value) (place : ℕ) (value : Value) (why : Wrong) → place < length numbers → slice_get values place ≡ Some value → given_out (get_or numbers place 0 ∷ []) (value ∷ []) registers ≡ Err why → given_out (drop place numbers) (drop place values) registers ≡ Err why
-given_stops numbers values registers place value why low had put =
-    next_of numbers values registers place value low had
-    ∙ stops (slice_get registers (get_or numbers place 0)) (set registers (get_or numbers place 0) value) why _ put
+pub given_stops : (numbers : List ℕ) (values registers : List Value) (index : ℕ) (value : Value) (why : Wrong) → index < length numbers → slice_get values index ≡ Some value → given_out (get_or numbers index 0 ∷ []) (value ∷ []) registers ≡ Err why → given_out (drop index numbers) (drop index values) registers ≡ Err why
+given_stops numbers values registers index value why low had put =
+    next_of numbers values registers index value low had
+    ∙ stops (slice_get registers (get_or numbers index 0)) (set registers (get_or numbers index 0) value) why _ put
 
 -- values in the registers that they were moved out of, the first one put last
 abbrev pub restored : List ℕ → List Value → List Value → List Value
@@ -112,14 +112,14 @@ restored_last (one ∷ numbers) (other ∷ values) number value registers same =
     ap (λ rest. set rest one other) (restored_last numbers values number value registers (omega (arith, same)))
 
 -- one more value is put back
-pub restored_more : (numbers : List ℕ) (values more registers : List Value) (place : ℕ) (value : Value) → more ≡ values ++ value ∷ [] → place ≡ length values → place < length numbers → restored (take (length more) numbers) more registers ≡ restored (take place numbers) values (set registers (get_or numbers place 0) value)
-restored_more numbers values more registers place value grown count low =
-    let longer : length more ≡ place + 1 = ap length grown ∙ omega (arith, length-append values (value ∷ []), count) in
-    let kept : length (take place numbers) ≡ place = omega (arith, length-take-le place numbers (omega arith)) in
+pub restored_more : (numbers : List ℕ) (values more registers : List Value) (index : ℕ) (value : Value) → more ≡ values ++ value ∷ [] → index ≡ length values → index < length numbers → restored (take (length more) numbers) more registers ≡ restored (take index numbers) values (set registers (get_or numbers index 0) value)
+restored_more numbers values more registers index value grown count low =
+    let longer : length more ≡ index + 1 = ap length grown ∙ omega (arith, length-append values (value ∷ []), count) in
+    let kept : length (take index numbers) ≡ index = omega (arith, length-take-le index numbers (omega arith)) in
     ap (λ most. restored (take most numbers) more registers) longer
-    ∙ ap (λ front. restored front more registers) (take_at_read numbers place 0 low).1
-    ∙ ap (λ (all : List Value). restored (take place numbers ++ get_or numbers place 0 ∷ []) all registers) grown
-    ∙ restored_last (take place numbers) values (get_or numbers place 0) value registers (omega (arith, count, kept))
+    ∙ ap (λ front. restored front more registers) (take_at_read numbers index 0 low).1
+    ∙ ap (λ (all : List Value). restored (take index numbers ++ get_or numbers index 0 ∷ []) all registers) grown
+    ∙ restored_last (take index numbers) values (get_or numbers index 0) value registers (omega (arith, count, kept))
 
 abbrev values_in : List Value → Parts → List Value
 values_in other (Err why) = other
@@ -175,9 +175,9 @@ given_back number value [] had = cc
 given_back number value (frame ∷ outer) had = ap (λ (put : List Value). record frame { registers = put } ∷ outer) (put_again frame.registers number value had)
 
 -- one more value is moved behind the others
-pub behind_more : (room more values left : List Value) (place : ℕ) (value : Value) → more ≡ room ++ value ∷ [] → left ≡ set values place Empty → slice_get values place ≡ Some value → more ++ drop (place + 1) left ≡ room ++ drop place values
-behind_more room more values left place value grown put had =
-    ap (λ (all : List Value). all ++ drop (place + 1) left) grown
-    ∙ append_assoc room (value ∷ []) (drop (place + 1) left)
-    ∙ ap (λ (kept : List Value). room ++ value ∷ drop (place + 1) kept) put
-    ∙ ap (λ (rest : List Value). room ++ rest) (left_of values place value had)
+pub behind_more : (room more values left : List Value) (index : ℕ) (value : Value) → more ≡ room ++ value ∷ [] → left ≡ set values index Empty → slice_get values index ≡ Some value → more ++ drop (index + 1) left ≡ room ++ drop index values
+behind_more room more values left index value grown put had =
+    ap (λ (all : List Value). all ++ drop (index + 1) left) grown
+    ∙ append_assoc room (value ∷ []) (drop (index + 1) left)
+    ∙ ap (λ (kept : List Value). room ++ value ∷ drop (index + 1) kept) put
+    ∙ ap (λ (rest : List Value). room ++ rest) (left_of values index value had)

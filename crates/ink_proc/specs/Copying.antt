@@ -1,5 +1,5 @@
 -- What a copy of a value wants of the counts of borrows.
-use Rattle.std.specs.Prelude.{◌≡◌, ◌<◌, Result, Ok, Err, IfSome}
+use Rattle.std.specs.Prelude.{◌<◌, IfSome}
 use Rattle.std.specs.FinMap.{get}
 use Rattle.ink_base.specs.declared.value.Value.{Value}
 use Rattle.ink_base.specs.declared.value.Value.TheVariants as v

@@ -37,8 +37,10 @@ pub(crate) fn move_out(
     ensures room { IfOk result (λ values. vec_capacity room ≤ vec_capacity values) }
 {
     for number in numbers {
-        let value = take_held(registers, *number)?;
-        room.push_reserved(value);
+        match take_held(registers, *number) {
+            Err(why) => return Err(why),
+            Ok(value) => room.push_reserved(value),
+        }
     }
     Ok(room)
 }
@@ -79,8 +81,8 @@ pub(crate) fn move_behind(front: &mut Vec<Value>, mut values: Items<Value>)
     ensures items { front.new.items ≡ front.old.items ++ values }
     ensures capacity { vec_capacity front.new ≡ vec_capacity front.old }
 {
-    for place in 0..values.len() {
-        let value = values.set(place, Value::Empty);
+    for index in 0..values.len() {
+        let value = values.set(index, Value::Empty);
         front.push_reserved(value);
     }
 }
@@ -107,8 +109,8 @@ pub(crate) fn move_in(
     if numbers.len() as u64 != values.len() {
         return Err(Wrong::Absent);
     }
-    for (place, number) in numbers.iter().enumerate() {
-        let value = values.set(place as u64, Value::Empty);
+    for (index, number) in numbers.iter().enumerate() {
+        let value = values.set(index as u64, Value::Empty);
         put_there(registers, *number, value)?;
     }
     Ok(())

@@ -1,5 +1,5 @@
 //! One process.
-ghost use Rattle.std.specs.Prelude.{◌≡◌, reverse, IfErr, IfOk};
+ghost use Rattle.std.specs.Prelude.{◌≡◌, IfErr, IfOk};
 ghost use Rattle.ink_proc.specs.Starts.{CanStart, started};
 ghost use Rattle.ink_proc.specs.State.{state_of};
 
@@ -7,7 +7,6 @@ use crate::fault::StartFault;
 use crate::frames::Frames;
 use crate::pending::Pending;
 use ink_base::{ObjectId, Value};
-use ink_code::Frame;
 use ink_heap::Heap;
 use std::alloc::Global;
 
@@ -54,33 +53,5 @@ impl Proc {
             ran: 0,
             room: Vec::new(alloc),
         })
-    }
-
-    /// Its number.
-    pub fn number(&self) -> u32
-        ensures { result ≡ self.now.number }
-    {
-        self.number
-    }
-
-    /// The number of its type.
-    pub fn kind(&self) -> u32
-        ensures { result ≡ self.now.kind }
-    {
-        self.kind
-    }
-
-    /// How many steps it made since its last action.
-    pub fn ran(&self) -> u64
-        ensures { result ≡ self.now.ran }
-    {
-        self.ran
-    }
-
-    /// Its frames, with the outermost in front.
-    pub fn frames(&self) -> &[Frame]
-        ensures { reverse result.now ≡ self.now.frames }
-    {
-        self.frames.as_slice()
     }
 }

@@ -7,7 +7,7 @@ ghost use Rattle.ink_rows.specs.Answers.{Answers, TakesNoMemory};
 
 use crate::computed::{Computed, RowFault};
 use crate::divided::{floor_quotient, floor_rest};
-use crate::operands::{int_of, pair, single};
+use crate::operands::{int_of, ints, single};
 use crate::shifts::{shift_down, shift_up};
 use ink_base::{Text, Value};
 use ink_code::{Wrong, row_numbers as rows};
@@ -19,9 +19,7 @@ use std::alloc::Global;
 fn add(alloc: Global, values: &[Value]) -> Result<Computed, RowFault>
     ensures { Answers result (add_row values.now) }
 {
-    let (one, other) = pair(values)?;
-    let a = int_of(one)?;
-    let b = int_of(other)?;
+    let (a, b) = ints(values)?;
     match a.checked_add(b) {
         Some(number) => Ok(Computed::Gives(Value::Int(number))),
         None => Ok(Computed::Raises(Text::of(alloc, b"integer overflow")?)),
@@ -33,9 +31,7 @@ fn add(alloc: Global, values: &[Value]) -> Result<Computed, RowFault>
 fn subtract(alloc: Global, values: &[Value]) -> Result<Computed, RowFault>
     ensures { Answers result (subtract_row values.now) }
 {
-    let (one, other) = pair(values)?;
-    let a = int_of(one)?;
-    let b = int_of(other)?;
+    let (a, b) = ints(values)?;
     match a.checked_sub(b) {
         Some(number) => Ok(Computed::Gives(Value::Int(number))),
         None => Ok(Computed::Raises(Text::of(alloc, b"integer overflow")?)),
@@ -47,9 +43,7 @@ fn subtract(alloc: Global, values: &[Value]) -> Result<Computed, RowFault>
 fn multiply(alloc: Global, values: &[Value]) -> Result<Computed, RowFault>
     ensures { Answers result (multiply_row values.now) }
 {
-    let (one, other) = pair(values)?;
-    let a = int_of(one)?;
-    let b = int_of(other)?;
+    let (a, b) = ints(values)?;
     match a.checked_mul(b) {
         Some(number) => Ok(Computed::Gives(Value::Int(number))),
         None => Ok(Computed::Raises(Text::of(alloc, b"integer overflow")?)),
@@ -61,9 +55,7 @@ fn multiply(alloc: Global, values: &[Value]) -> Result<Computed, RowFault>
 fn divide(alloc: Global, values: &[Value]) -> Result<Computed, RowFault>
     ensures { Answers result (divide_row values.now) }
 {
-    let (one, other) = pair(values)?;
-    let a = int_of(one)?;
-    let b = int_of(other)?;
+    let (a, b) = ints(values)?;
     if b == 0 {
         return Ok(Computed::Raises(Text::of(alloc, b"division by zero")?));
     }
@@ -78,9 +70,7 @@ fn divide(alloc: Global, values: &[Value]) -> Result<Computed, RowFault>
 fn rest(alloc: Global, values: &[Value]) -> Result<Computed, RowFault>
     ensures { Answers result (rest_row values.now) }
 {
-    let (one, other) = pair(values)?;
-    let a = int_of(one)?;
-    let b = int_of(other)?;
+    let (a, b) = ints(values)?;
     if b == 0 {
         return Ok(Computed::Raises(Text::of(alloc, b"division by zero")?));
     }
@@ -93,9 +83,7 @@ fn equal(values: &[Value]) -> Result<Computed, RowFault>
     ensures answer { Answers result (equal_row values.now) }
     ensures memory { TakesNoMemory result }
 {
-    let (one, other) = pair(values)?;
-    let a = int_of(one)?;
-    let b = int_of(other)?;
+    let (a, b) = ints(values)?;
     Ok(Computed::Gives(Value::Bool(a == b)))
 }
 
@@ -105,9 +93,7 @@ fn unequal(values: &[Value]) -> Result<Computed, RowFault>
     ensures answer { Answers result (unequal_row values.now) }
     ensures memory { TakesNoMemory result }
 {
-    let (one, other) = pair(values)?;
-    let a = int_of(one)?;
-    let b = int_of(other)?;
+    let (a, b) = ints(values)?;
     Ok(Computed::Gives(Value::Bool(a != b)))
 }
 
@@ -117,9 +103,7 @@ fn less(values: &[Value]) -> Result<Computed, RowFault>
     ensures answer { Answers result (less_row values.now) }
     ensures memory { TakesNoMemory result }
 {
-    let (one, other) = pair(values)?;
-    let a = int_of(one)?;
-    let b = int_of(other)?;
+    let (a, b) = ints(values)?;
     Ok(Computed::Gives(Value::Bool(a < b)))
 }
 
@@ -129,9 +113,7 @@ fn at_most(values: &[Value]) -> Result<Computed, RowFault>
     ensures answer { Answers result (at_most_row values.now) }
     ensures memory { TakesNoMemory result }
 {
-    let (one, other) = pair(values)?;
-    let a = int_of(one)?;
-    let b = int_of(other)?;
+    let (a, b) = ints(values)?;
     Ok(Computed::Gives(Value::Bool(a <= b)))
 }
 
@@ -141,9 +123,7 @@ fn greater(values: &[Value]) -> Result<Computed, RowFault>
     ensures answer { Answers result (greater_row values.now) }
     ensures memory { TakesNoMemory result }
 {
-    let (one, other) = pair(values)?;
-    let a = int_of(one)?;
-    let b = int_of(other)?;
+    let (a, b) = ints(values)?;
     Ok(Computed::Gives(Value::Bool(a > b)))
 }
 
@@ -153,9 +133,7 @@ fn at_least(values: &[Value]) -> Result<Computed, RowFault>
     ensures answer { Answers result (at_least_row values.now) }
     ensures memory { TakesNoMemory result }
 {
-    let (one, other) = pair(values)?;
-    let a = int_of(one)?;
-    let b = int_of(other)?;
+    let (a, b) = ints(values)?;
     Ok(Computed::Gives(Value::Bool(a >= b)))
 }
 
@@ -165,9 +143,7 @@ fn bit_and(values: &[Value]) -> Result<Computed, RowFault>
     ensures answer { Answers result (bit_and_row values.now) }
     ensures memory { TakesNoMemory result }
 {
-    let (one, other) = pair(values)?;
-    let a = int_of(one)?;
-    let b = int_of(other)?;
+    let (a, b) = ints(values)?;
     Ok(Computed::Gives(Value::Int(a & b)))
 }
 
@@ -177,9 +153,7 @@ fn bit_or(values: &[Value]) -> Result<Computed, RowFault>
     ensures answer { Answers result (bit_or_row values.now) }
     ensures memory { TakesNoMemory result }
 {
-    let (one, other) = pair(values)?;
-    let a = int_of(one)?;
-    let b = int_of(other)?;
+    let (a, b) = ints(values)?;
     Ok(Computed::Gives(Value::Int(a | b)))
 }
 
@@ -189,9 +163,7 @@ fn bit_xor(values: &[Value]) -> Result<Computed, RowFault>
     ensures answer { Answers result (bit_xor_row values.now) }
     ensures memory { TakesNoMemory result }
 {
-    let (one, other) = pair(values)?;
-    let a = int_of(one)?;
-    let b = int_of(other)?;
+    let (a, b) = ints(values)?;
     Ok(Computed::Gives(Value::Int(a ^ b)))
 }
 

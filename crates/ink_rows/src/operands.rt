@@ -1,8 +1,11 @@
 //! The operands of a row.
 #![tactic(auto, unfolding(ink_code::specs::Machine::after))]
 
-ghost use Rattle.std.specs.Prelude.{◌≡◌, Ok, Err, MatchResult};
-ghost use Rattle.ink_code.specs.Rows.{single, pair, int_of, place_in};
+ghost use Rattle.std.specs.Prelude.{◌≡◌, ℕ, ℤ, List, Ok, Err, MatchResult};
+ghost use Rattle.ink_code.specs.IntRows.{of_ints};
+ghost use Rattle.ink_code.specs.TextRows.{of_texts};
+ghost use Rattle.ink_code.specs.Rows.{Computation, single, pair, int_of, place_in};
+ghost use Rattle.ink_rows.specs.Operands.{AreInts, AreTexts};
 ghost use Rattle.ink_code.specs.Moves.{truth_of, text_of};
 
 use ink_base::{Text, Value};
@@ -47,6 +50,19 @@ pub fn int_of(value: &Value) -> Result<i64, Wrong>
     }
 }
 
+/// The numbers of two Ints.
+#[tactic(auto, unfolding(ink_code::specs::Machine::after))]
+pub(crate) fn ints(values: &[Value]) -> Result<(i64, i64), Wrong>
+    ensures { MatchResult result
+        (λ both. AreInts values.now both.0 both.1)
+        (λ why. (row : ℤ → ℤ → Computation) → of_ints values.now row ≡ Err why) }
+{
+    let (one, other) = pair(values)?;
+    let a = int_of(one)?;
+    let b = int_of(other)?;
+    Ok((a, b))
+}
+
 /// Whether a Bool is true.
 pub fn truth_of(value: &Value) -> Result<bool, Wrong>
     ensures { result ≡ truth_of value.now }
@@ -65,6 +81,19 @@ pub fn text_of(value: &Value) -> Result<&Text, Wrong>
         Value::Txt(text) => Ok(text),
         _ => Err(Wrong::Kind),
     }
+}
+
+/// Two texts.
+#[tactic(auto, unfolding(ink_code::specs::Machine::after))]
+pub(crate) fn texts(values: &[Value]) -> Result<(&Text, &Text), Wrong>
+    ensures { MatchResult result
+        (λ both. AreTexts values.now both.0.now both.1.now)
+        (λ why. (row : List ℕ → List ℕ → Computation) → of_texts values.now row ≡ Err why) }
+{
+    let (one, other) = pair(values)?;
+    let a = text_of(one)?;
+    let b = text_of(other)?;
+    Ok((a, b))
 }
 
 /// The index that a number is among so many items, where it is one.

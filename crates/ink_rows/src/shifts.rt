@@ -6,7 +6,7 @@ ghost use Rattle.ink_code.specs.IntRows.{shift_of, shift_up_row, shift_down_row}
 ghost use Rattle.ink_rows.specs.Answers.{Answers};
 
 use crate::computed::{Computed, RowFault};
-use crate::operands::{int_of, pair};
+use crate::operands::ints;
 use ink_base::{Text, Value};
 use std::alloc::Global;
 
@@ -26,9 +26,7 @@ fn shift_of(bits: i64) -> Option<u32>
 pub fn shift_up(alloc: Global, values: &[Value]) -> Result<Computed, RowFault>
     ensures { Answers result (shift_up_row values.now) }
 {
-    let (one, other) = pair(values)?;
-    let a = int_of(one)?;
-    let b = int_of(other)?;
+    let (a, b) = ints(values)?;
     match shift_of(b) {
         Some(bits) => Ok(Computed::Gives(Value::Int(a << bits))),
         None => Ok(Computed::Raises(Text::of(alloc, b"shift out of range")?)),
@@ -40,9 +38,7 @@ pub fn shift_up(alloc: Global, values: &[Value]) -> Result<Computed, RowFault>
 pub fn shift_down(alloc: Global, values: &[Value]) -> Result<Computed, RowFault>
     ensures { Answers result (shift_down_row values.now) }
 {
-    let (one, other) = pair(values)?;
-    let a = int_of(one)?;
-    let b = int_of(other)?;
+    let (a, b) = ints(values)?;
     match shift_of(b) {
         Some(bits) => Ok(Computed::Gives(Value::Int(a >> bits))),
         None => Ok(Computed::Raises(Text::of(alloc, b"shift out of range")?)),

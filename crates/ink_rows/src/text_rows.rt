@@ -6,7 +6,7 @@ ghost use Rattle.ink_code.specs.TextRows.{join_row, same_text_row, other_text_ro
 ghost use Rattle.ink_rows.specs.Answers.{Answers, TakesNoMemory};
 
 use crate::computed::{Computed, RowFault};
-use crate::operands::{index_in, int_of, pair, single, text_of};
+use crate::operands::{index_in, int_of, pair, single, text_of, texts};
 use crate::texts::{index_text, limit_text_of};
 use ink_base::{Limit, Limits, Text, TextFault, Value};
 use ink_code::{Wrong, row_numbers as rows};
@@ -17,9 +17,7 @@ use std::alloc::Global;
 fn join(alloc: Global, limits: &Limits, values: &[Value]) -> Result<Computed, RowFault>
     ensures { Answers result (join_row limits.now values.now) }
 {
-    let (one, other) = pair(values)?;
-    let a = text_of(one)?;
-    let b = text_of(other)?;
+    let (a, b) = texts(values)?;
     match a.join(alloc, b, limits.get(Limit::Text)) {
         Ok(text) => Ok(Computed::Gives(Value::Txt(text))),
         Err(TextFault::TooLong(_)) => { Ok(Computed::Raises(limit_text_of(alloc, Limit::Text)?)) }
@@ -33,9 +31,7 @@ fn same(values: &[Value]) -> Result<Computed, RowFault>
     ensures answer { Answers result (same_text_row values.now) }
     ensures memory { TakesNoMemory result }
 {
-    let (one, other) = pair(values)?;
-    let a = text_of(one)?;
-    let b = text_of(other)?;
+    let (a, b) = texts(values)?;
     Ok(Computed::Gives(Value::Bool(a.bytes() == b.bytes())))
 }
 
@@ -45,9 +41,7 @@ fn differs(values: &[Value]) -> Result<Computed, RowFault>
     ensures answer { Answers result (other_text_row values.now) }
     ensures memory { TakesNoMemory result }
 {
-    let (one, other) = pair(values)?;
-    let a = text_of(one)?;
-    let b = text_of(other)?;
+    let (a, b) = texts(values)?;
     Ok(Computed::Gives(Value::Bool(a.bytes() != b.bytes())))
 }
 
@@ -91,9 +85,7 @@ fn starts_with(values: &[Value]) -> Result<Computed, RowFault>
     ensures answer { Answers result (starts_with_row values.now) }
     ensures memory { TakesNoMemory result }
 {
-    let (one, other) = pair(values)?;
-    let text = text_of(one)?;
-    let front = text_of(other)?;
+    let (text, front) = texts(values)?;
     Ok(Computed::Gives(Value::Bool(text.bytes().starts_with(front.bytes()))))
 }
 

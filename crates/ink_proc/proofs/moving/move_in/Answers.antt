@@ -9,10 +9,10 @@ returns-then-numbers-len c =
     let differ : length c.args.numbers.now ≢ length c.args.values = omega arith in
     given_apart c.args.numbers.now c.args.values c.args.registers.now differ
 
-pub loop-place-preserved : goal.loop-place-preserved
-loop-place-preserved c =
-    let low : c.loop-place.place < length c.args.numbers.now = omega arith in
+pub loop-index-preserved : goal.loop-index-preserved
+loop-index-preserved c =
+    let low : c.loop-index.index < length c.args.numbers.now = omega arith in
     rw c.set-value.ensures.after record {
-      so_far = c.loop-place.invariant.so_far ∙ given_more _ _ _ _ c.loop-place.place c.set-value.result low c.set-value.ensures.old c.in_ok-put_there.ensures;
-      count = length-set c.loop-place.values c.loop-place.place Empty ∙ c.loop-place.invariant.count;
+      so_far = c.loop-index.invariant.so_far ∙ given_more _ _ _ _ c.loop-index.index c.set-value.result low c.set-value.ensures.old c.in_ok-put_there.ensures;
+      count = length-set c.loop-index.values c.loop-index.index Empty ∙ c.loop-index.invariant.count;
     }
