@@ -141,7 +141,7 @@ pub fn a_process(alloc: Global) -> Result<Proc, AllocError> {
 }
 
 /// To how much the loop has counted.
-pub fn counted(process: &Proc) -> Option<i64> {
+pub fn count_in(process: &Proc) -> Option<i64> {
     match process.frames.register(COUNTER) {
         Some(Value::Int(number)) => Some(*number),
         _ => None,

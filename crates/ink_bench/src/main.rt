@@ -4,7 +4,7 @@
 
 mod counting;
 
-use crate::counting::{a_code, a_process, counted};
+use crate::counting::{a_code, a_process, count_in};
 use ink_base::Limits;
 use ink_interp::{Stepped, slice};
 use std::alloc::AllocGlobal;
@@ -30,7 +30,7 @@ fn main(rt: HostRuntime) -> io::Result<()> {
     let code = a_code(rt.alloc())?;
     let mut process = a_process(rt.alloc())?;
     let came = slice(rt.alloc(), &mut process, &code, &Limits::defaults(), turns);
-    match (came, counted(&process)) {
+    match (came, count_in(&process)) {
         (Ok(Stepped::Went), Some(number)) => println!(rt; "{turns} steps counted to {number}"),
         _ => println!(rt; "the loop did not go on"),
     }

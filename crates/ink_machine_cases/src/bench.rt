@@ -3,7 +3,7 @@
 use crate::answers::{NoReply, reply_in};
 use crate::limits::{limit_of, limits_with};
 use crate::looks::{all_of, frames_text, objects_text, waiting_text};
-use crate::told::{came_text, wrong_word};
+use crate::told::{came_text, text_of, wrong_word};
 use crate::words::{first_word, two_numbers, value_of, values};
 use ink_base::{Items, Limits, Object, ObjectId, Value};
 use ink_code::{Code, Frame, listing};
@@ -11,7 +11,6 @@ use ink_heap::Heap;
 use ink_interp::{AnswerFault, answer, slice, step};
 use ink_proc::Proc;
 use std::alloc::{AllocError, Global};
-use std::str;
 
 /// What is told of a line that says nothing.
 const NOT_UNDERSTOOD: &str = "not understood";
@@ -226,7 +225,6 @@ impl Bench {
 
 /// The listing of a code, with a line break before it.
 fn listing_text(alloc: Global, code: &Code) -> Result<String, AllocError> {
-    let text = listing(alloc, code)?;
-    let lines = str::from_utf8(text.bytes()).unwrap_or("not UTF-8");
-    format!(in alloc; "\n{}", lines.trim_end())
+    let lines = listing(alloc, code)?;
+    format!(in alloc; "\n{}", text_of(&lines).trim_end())
 }

@@ -2,40 +2,56 @@
 
 use crate::told::{value_text, values_text};
 use ink_base::ObjectId;
+use ink_code::Frame;
 use ink_heap::Heap;
 use ink_proc::Proc;
 use std::alloc::{AllocError, Global};
 
 /// All that tells of a process: its frames, its objects, its drops that wait, and its two counts.
 pub fn all_of(alloc: Global, process: &Proc) -> Result<String, AllocError> {
-    format!(in alloc;
-        "{:?} {:?} {:?} {} {}",
-        process.frames, process.heap, process.pending, process.made, process.ran
-    )
+    let frames = format!(in alloc; "{:?}", process.frames)?;
+    let objects = format!(in alloc; "{:?}", process.heap)?;
+    let waiting = format!(in alloc; "{:?}", process.pending)?;
+    let mut text = format!(in alloc; "{} {}", process.made, process.ran)?;
+    text.push_str(frames.as_str())?;
+    text.push_str(objects.as_str())?;
+    text.push_str(waiting.as_str())?;
+    Ok(text)
 }
 
-/// The frames with their registers, the innermost first, each in a line.
+/// A frame in a line, with a line break before it.
+fn frame_text(alloc: Global, frame: &Frame) -> Result<String, AllocError> {
+    let registers = values_text(alloc, frame.registers.as_slice())?;
+    let place = frame.place;
+    let method = frame.method;
+    format!(in alloc; "\n    method {method} at {place}:{registers}")
+}
+
+/// How many frames there are, and each with its registers in a line, the outermost first.
 pub fn frames_text(alloc: Global, process: &Proc) -> Result<String, AllocError> {
     let mut text = format!(in alloc; "{}", process.frames.len())?;
-    for frame in process.frames.as_slice().iter().rev() {
-        let registers = values_text(alloc, frame.registers.as_slice())?;
-        let line = format!(in alloc;
-            "\n    method {} at {}:{registers}",
-            frame.method, frame.place
-        )?;
-        text.push_str(line.as_str())?;
+    for frame in process.frames.as_slice() {
+        text.push_str(frame_text(alloc, frame)?.as_str())?;
     }
     Ok(text)
+}
+
+/// The value in a field of an object, behind a blank. Nothing where there is none.
+fn field_text(alloc: Global, heap: &Heap, id: &ObjectId, field: u64) -> Result<String, AllocError> {
+    match heap.read(id, field) {
+        None => Ok(String::new(alloc)),
+        Some(value) => {
+            let value = value_text(alloc, value)?;
+            format!(in alloc; " {value}")
+        }
+    }
 }
 
 /// The values in the fields of an object, of which there are so many.
 fn fields_text(alloc: Global, heap: &Heap, id: &ObjectId, size: u64) -> Result<String, AllocError> {
     let mut text = String::new(alloc);
     for field in 0..size {
-        if let Some(value) = heap.read(id, field) {
-            text.push_str(" ")?;
-            text.push_str(value_text(alloc, value)?.as_str())?;
-        }
+        text.push_str(field_text(alloc, heap, id, field)?.as_str())?;
     }
     Ok(text)
 }

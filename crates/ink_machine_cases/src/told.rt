@@ -7,9 +7,12 @@ use ink_parcel::Parcel;
 use std::alloc::{AllocError, Global};
 use std::str;
 
-/// A text, where it is UTF-8.
-fn text_of(text: &Text) -> &str {
-    str::from_utf8(text.bytes()).unwrap_or("a text that is not UTF-8")
+/// A text. Nothing where it isn't UTF-8.
+pub fn text_of(text: &Text) -> &str {
+    match str::from_utf8(text.bytes()) {
+        Ok(text) => text,
+        Err(_) => "",
+    }
 }
 
 /// The words for an owner or a borrow of an object.
