@@ -9,7 +9,7 @@ use Rattle.std.proofs.lemmas.Option.{slice_get_read}
 use Rattle.std.specs.List.{AllByRecursion}
 use Rattle.ink_grammar.specs.declared.tree.Node.{Node}
 use Rattle.ink_grammar.specs.declared.builder.Value.{Value}
-use Rattle.ink_grammar.specs.Tree.{Tree, Missing, Found, first, start, rest, is_place}
+use Rattle.ink_grammar.specs.Tree.{Tree, Missing, Found, first, start, rest, is_place, no_node}
 use Rattle.ink_grammar.specs.Built.{at, grow, onto, trees, found_at, found_of}
 
 onto_push : (ts : List Tree) (ns : List Node) (x : Node) → onto ts (ns ++ x ∷ []) ≡ onto ts ns ++ grow (onto ts ns) x ∷ []
@@ -38,33 +38,33 @@ found_none ts = refl
 
 -- a number that stands for a tree, or for nothing
 abbrev pub Known : ℕ → Value → Type 0
-Known n v = n ≤ v.node → v.node ≡ 4294967295
+Known n v = n ≤ v.node → v.node ≡ no_node
 
-same_at : (ts : List Tree) (t : Tree) (k : ℕ) → length ts < 4294967295 → (length ts ≤ k → k ≡ 4294967295) → at (ts ++ t ∷ []) k ≡ at ts k
+same_at : (ts : List Tree) (t : Tree) (k : ℕ) → length ts < no_node → (length ts ≤ k → k ≡ no_node) → at (ts ++ t ∷ []) k ≡ at ts k
 same_at ts t k few h = by_cases (nat_lt k (length ts))
     (λ e. let l : k < length ts = ltb-true k (length ts) e in get_or_append_left ts (t ∷ []) Missing k l)
-    (λ e. let m : k ≡ 4294967295 = h (ltb-false k (length ts) e) in get_or_past (ts ++ t ∷ []) k Missing (omega (arith, length-append ts (t ∷ []), m)) ∙ sym (get_or_past ts k Missing (omega (arith, m))))
+    (λ e. let m : k ≡ no_node = h (ltb-false k (length ts) e) in get_or_past (ts ++ t ∷ []) k Missing (omega (arith, length-append ts (t ∷ []), m)) ∙ sym (get_or_past ts k Missing (omega (arith, m))))
 
-map_more : (ts : List Tree) (t : Tree) (vs : List Value) → length ts < 4294967295 → AllByRecursion (λ (v : Value). Known (length ts) v) vs → map (λ x. found_at (ts ++ t ∷ []) x) vs ≡ map (λ x. found_at ts x) vs
+map_more : (ts : List Tree) (t : Tree) (vs : List Value) → length ts < no_node → AllByRecursion (λ (v : Value). Known (length ts) v) vs → map (λ x. found_at (ts ++ t ∷ []) x) vs ≡ map (λ x. found_at ts x) vs
 map_more ts t [] few h = refl
 map_more ts t (v ∷ vs) few h =
     let e : at (ts ++ t ∷ []) v.node ≡ at ts v.node = same_at ts t v.node few h.0 in
     let e2 : found_at (ts ++ t ∷ []) v ≡ found_at ts v = ap (λ (y : Tree). record { tree = y; start = v.start; is_place = v.is_place }) e in
     ap (λ y. y ∷ map (λ x. found_at (ts ++ t ∷ []) x) vs) e2 ∙ ap (λ y. found_at ts v ∷ y) (map_more ts t vs few h.1)
 
-found_more : (ts : List Tree) (t : Tree) (vs : List Value) → length ts < 4294967295 → All (λ (v : Value). Known (length ts) v) vs → found_of (ts ++ t ∷ []) vs ≡ found_of ts vs
+found_more : (ts : List Tree) (t : Tree) (vs : List Value) → length ts < no_node → All (λ (v : Value). Known (length ts) v) vs → found_of (ts ++ t ∷ []) vs ≡ found_of ts vs
 unfolding found_of
 found_more ts t vs few h = ap reverse (map_more ts t vs few (recursion_from_All (λ (v : Value). Known (length ts) v) vs h))
 
-pub none_missing : (ns : List Node) → length ns ≤ 4294967295 → at (trees ns) 4294967295 ≡ Missing
-none_missing ns h = get_or_past (trees ns) 4294967295 Missing (omega (arith, trees_length ns))
+pub none_missing : (ns : List Node) → length ns ≤ no_node → at (trees ns) no_node ≡ Missing
+none_missing ns h = get_or_past (trees ns) no_node Missing (omega (arith, trees_length ns))
 
 -- a value of no node
-pub nothing_pushed : (ns : List Node) (fs fs' : List Found) → length ns ≤ 4294967295 → fs' ≡ record { tree = at (trees ns) 4294967295; start = 0; is_place = false } ∷ fs → fs' ≡ record { tree = Missing; start = 0; is_place = false } ∷ fs
+pub nothing_pushed : (ns : List Node) (fs fs' : List Found) → length ns ≤ no_node → fs' ≡ record { tree = at (trees ns) no_node; start = 0; is_place = false } ∷ fs → fs' ≡ record { tree = Missing; start = 0; is_place = false } ∷ fs
 nothing_pushed ns fs fs' h e = e ∙ ap (λ (y : Tree). record { tree = y; start = 0; is_place = false } ∷ fs) (none_missing ns h)
 
 -- a node and its value at the ends
-pub pushed : (ns ns' : List Node) (vs vs' : List Value) (x : Node) (s : ℕ) (b : Bool) (k : ℕ) → All (λ (v : Value). length ns ≤ v.node → v.node ≡ 4294967295) vs → k ≡ length ns → k < 4294967295 → ns' ≡ ns ++ x ∷ [] → vs' ≡ vs ++ record { node = k; start = s; is_place = b } ∷ [] →
+pub pushed : (ns ns' : List Node) (vs vs' : List Value) (x : Node) (s : ℕ) (b : Bool) (k : ℕ) → All (λ (v : Value). length ns ≤ v.node → v.node ≡ no_node) vs → k ≡ length ns → k < no_node → ns' ≡ ns ++ x ∷ [] → vs' ≡ vs ++ record { node = k; start = s; is_place = b } ∷ [] →
     found_of (trees ns') vs' ≡ record { tree = grow (trees ns) x; start = s; is_place = b } ∷ found_of (trees ns) vs
 pushed ns ns' vs vs' x s b k h m few e f =
     let g = subst (λ n. All (λ (v : Value). Known n v) vs) (sym (trees_length ns)) h in
@@ -103,7 +103,7 @@ module _ (ns : List Node) (vs vs' : List Value) (e : vs ≡ vs' ++ []) (none : l
   same_values : found_of (trees ns) vs' ≡ []
   same_values = ap (λ y. found_of (trees ns) y) (empty vs' (omega (arith, length-append vs' [], ap length e))) ∙ found_none (trees ns)
 
-  pub unpopped_first : length ns ≤ 4294967295 → at (trees ns) 4294967295 ≡ first (found_of (trees ns) vs)
+  pub unpopped_first : length ns ≤ no_node → at (trees ns) no_node ≡ first (found_of (trees ns) vs)
   unpopped_first h = none_missing ns h ∙ sym (ap first no_values)
 
   pub unpopped_rest : found_of (trees ns) vs' ≡ rest (found_of (trees ns) vs)

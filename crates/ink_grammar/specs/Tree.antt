@@ -141,3 +141,7 @@ act (act_of.Two form) vs = two form vs
 act (act_of.Three form) vs = three form vs
 act (act_of.Four form) vs = four form vs
 act (act_of.Five form) vs = five form vs
+
+-- the number that is no node's: a module has at most so many nodes, counted from 0
+abbrev pub no_node : ℕ
+no_node = 4294967295

@@ -1,6 +1,7 @@
 //! What was read so far, while a module is parsed: its nodes, and a stack of values that no node holds yet.
 
 ghost use Rattle.std.specs.Prelude.{◌≡◌, ◌≤◌, ◌∷◌, [], All, false, length, OnOk};
+ghost use Rattle.ink_grammar.specs.Tree.{no_node};
 
 use crate::symbol::{Action, Wanted};
 use crate::token::Terminal;
@@ -26,8 +27,8 @@ const NOTHING: u32 = 0xffff_ffff;
 pub struct Builder {
     nodes: Vec<Node>,
     values: Vec<Value>,
-    ghost known: { All (λ v. length nodes.items ≤ v.node → v.node ≡ 4294967295) values.items },
-    ghost few: { length nodes.items ≤ 4294967295 },
+    ghost known: { All (λ v. length nodes.items ≤ v.node → v.node ≡ no_node) values.items },
+    ghost few: { length nodes.items ≤ no_node },
 }
 
 impl Builder {
@@ -59,7 +60,7 @@ impl Builder {
     fn pop(&mut self) -> Value
         ensures tree { built.at (view.trees_in self.old) result.node ≡ spec.first (view.found self.old) }
         ensures start { result.start ≡ spec.start (view.found self.old) }
-        ensures known { length self.new.nodes.items ≤ result.node → result.node ≡ 4294967295 }
+        ensures known { length self.new.nodes.items ≤ result.node → result.node ≡ no_node }
         ensures nodes { self.new.nodes.items ≡ self.old.nodes.items }
         ensures found { view.found self.new ≡ spec.rest (view.found self.old) }
     {
@@ -78,7 +79,7 @@ impl Builder {
         ensures { OnOk result (view.found self.new ≡ record { tree = built.grow (view.trees_in self.old) node; start = start; is_place = is_place } ∷ view.found self.old) }
     {
         let number = self.nodes.len();
-        if number >= 0xffff_ffff {
+        if number >= NOTHING as usize {
             return Err(AllocError);
         }
         self.nodes.push(node)?;
@@ -92,7 +93,7 @@ impl Builder {
 
     /// Keeps a value that has its node, or none, and is no place.
     fn push_value(&mut self, node: u32, start: u32) -> Result<(), AllocError>
-        requires { length self.now.nodes.items ≤ node → node ≡ 4294967295 }
+        requires { length self.now.nodes.items ≤ node → node ≡ no_node }
         ensures { OnOk result (view.found self.new ≡ record { tree = built.at (view.trees_in self.old) node; start = start; is_place = false } ∷ view.found self.old) }
     {
         self.values.push(Value {

@@ -21,7 +21,7 @@ use crate::tree::Module;
 use std::alloc::{AllocError, Global};
 
 /// Why there is no module.
-#[derive(Clone, Copy, Debug, PartialEq, Eq)]
+#[derive(Clone, Copy, Debug)]
 pub enum ParseError {
     /// Memory ran out, or the module has more nodes than can be numbered.
     OutOfMemory,
@@ -105,7 +105,7 @@ fn token_at(tokens: &[Terminal], at: usize) -> Option<Terminal>
 }
 
 /// The token, if it is one that is wanted and stands so.
-fn taken(
+fn wanted_token(
     line: Line,
     wanted: Wanted,
     token: Option<Terminal>,
@@ -121,7 +121,7 @@ fn taken(
 }
 
 /// The token, if it is one that is wanted and stands directly after a place.
-fn taken_after(
+fn wanted_after_place(
     is_place: bool,
     wanted: Wanted,
     token: Option<Terminal>,
@@ -169,12 +169,12 @@ pub fn parse(alloc: Global, tokens: &[Terminal]) -> Result<Module, ParseError>
         let token = token_at(tokens, at);
         match symbol {
             Symbol::Token(line, wanted) => {
-                let token = taken(line, wanted, token, at)?;
+                let token = wanted_token(line, wanted, token, at)?;
                 builder.keep(wanted, token)?;
                 at += 1;
             }
             Symbol::Place(wanted) => {
-                let token = taken_after(builder.is_place(), wanted, token, at)?;
+                let token = wanted_after_place(builder.is_place(), wanted, token, at)?;
                 builder.keep(wanted, token)?;
                 at += 1;
             }

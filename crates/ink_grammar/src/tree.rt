@@ -6,14 +6,14 @@ ghost use Rattle.ink_grammar.specs.Tree as spec;
 use crate::token::{Shape, Terminal};
 
 /// What a node with one child is.
-#[derive(Clone, Copy, Debug, PartialEq, Eq)]
+#[derive(Clone, Copy, Debug)]
 pub enum OneChild {
     /// A value that counts as a statement. It begins where the statement does, parentheses included.
     Statement,
 }
 
 /// What a node with two children is. Where a word or an opening mark is a child, it is the first.
-#[derive(Clone, Copy, Debug, PartialEq, Eq)]
+#[derive(Clone, Copy, Debug)]
 pub enum TwoChildren {
     /// A list and the item behind it.
     More,
@@ -65,7 +65,7 @@ pub enum TwoChildren {
 }
 
 /// What a node with three children is.
-#[derive(Clone, Copy, Debug, PartialEq, Eq)]
+#[derive(Clone, Copy, Debug)]
 pub enum ThreeChildren {
     /// The word, the list of names of the path, and the list of imported names, or nothing.
     Import,
@@ -90,7 +90,7 @@ pub enum ThreeChildren {
 }
 
 /// What a node with four children is.
-#[derive(Clone, Copy, Debug, PartialEq, Eq)]
+#[derive(Clone, Copy, Debug)]
 pub enum FourChildren {
     /// The word, the list of words behind it, the field and its type.
     FieldDeclaration,
@@ -113,7 +113,7 @@ pub enum FourChildren {
 }
 
 /// What a node with five children is.
-#[derive(Clone, Copy, Debug, PartialEq, Eq)]
+#[derive(Clone, Copy, Debug)]
 pub enum FiveChildren {
     /// The word, the list of words behind it, the name, the type parameters or nothing, and the members.
     TypeDeclaration,
@@ -126,7 +126,7 @@ pub enum FiveChildren {
 
 /// A node: what it is, the byte at which it begins, and the numbers of its children. A number that is no node's stands
 /// for nothing.
-#[derive(Clone, Copy, PartialEq, Eq)]
+#[derive(Clone, Copy)]
 pub enum Node {
     /// A token that is kept.
     Leaf(Terminal),

@@ -6,7 +6,7 @@ use Rattle.ink_tokens.specs.Integer.{is_too_wide, begins_hexadecimal, number_beh
 use Rattle.ink_tokens.specs.Part.{part_length}
 use Rattle.ink_tokens.specs.Spelling.{spelled_name, spelled_integer}
 use Rattle.ink_tokens.specs.Words.{word_kind, is_keyword}
-use Rattle.ink_shapes.specs.Shaped.{shape_by, integer_shape, keyword_shape}
+use Rattle.ink_shapes.specs.Terminals.{shape_by, integer_shape, keyword_shape}
 use Rattle.ink_shapes.specs.Keywords.{keyword_of}
 use Rattle.ink_grammar.specs.declared.token.Terminal.{Terminal}
 use Rattle.ink_grammar.specs.declared.tree.OneChild.TheVariants as one_of

@@ -5,7 +5,7 @@ use Rattle.ink_tokens.specs.Bytes.{is_quote}
 use Rattle.ink_tokens.specs.Fault.{is_wide_integer}
 use Rattle.ink_tokens.specs.Part.{part_length}
 use Rattle.ink_tokens.specs.Spelling.{IsSpelled}
-use Rattle.ink_shapes.specs.Shaped.{shape_by}
+use Rattle.ink_shapes.specs.Terminals.{shape_by}
 use Rattle.ink_grammar.specs.declared.token.Terminal.{Terminal}
 use Rattle.ink_grammar.specs.declared.token.Shape.{Shape}
 use Rattle.ink_grammar.specs.declared.symbol.Wanted.{Wanted}

@@ -41,11 +41,11 @@ pub record Leads (source : List ℕ) (from : List Level) (free : Bool) (ps : Lis
   pub on : (qs : List Piece) → Follow source to end qs → Follow source from free (ps ++ qs)
 
 -- where a value may stand, with parentheses if they are wanted
-pub data ValuePlace : Context → Type 0 where
-  at_expression : ValuePlace context.Expression
-  at_chain : ValuePlace context.Chain
-  at_operand : ValuePlace context.Operand
-  at_base : ValuePlace context.Base
+pub data ValueContext : Context → Type 0 where
+  at_expression : ValueContext context.Expression
+  at_chain : ValueContext context.Chain
+  at_operand : ValueContext context.Operand
+  at_base : ValueContext context.Base
 
 module _ {source : List ℕ} where
   pub done : {from : List Level} {free : Bool} → Leads source from free [] from free
@@ -122,7 +122,7 @@ module _ {source : List ℕ} where
   wrapped true code x = a_sign sign.LeftParen code refl (then x (a_sign sign.RightParen code refl done))
   wrapped false code x = then x done
 
-  pub around_value : {l : Level} {ls : List Level} {ps : List Piece} {p : Context} → ValuePlace p → (r : Rank) → IsCode l → Leads source (l ∷ ls) true ps (l ∷ ls) false →
+  pub around_value : {l : Level} {ls : List Level} {ps : List Piece} {p : Context} → ValueContext p → (r : Rank) → IsCode l → Leads source (l ∷ ls) true ps (l ∷ ls) false →
       Leads source (l ∷ ls) true (around p r ps) (l ∷ ls) false
   around_value at_expression r code x = then x done
   around_value at_chain r code x = wrapped (needs_parentheses context.Chain r) code x

@@ -17,7 +17,7 @@ use Rattle.ink_law_categories.specs.Written.{IsToken, IsWanted, IsQuote}
 use Rattle.ink_law_categories.specs.Categories as category
 use Rattle.ink_law_categories.specs.Categories.{Category}
 use Rattle.ink_law_neighbours.specs.Follow.{is_word}
-use Rattle.ink_law_neighbours.proofs.Leads.{Leads, ValuePlace}
+use Rattle.ink_law_neighbours.proofs.Leads.{Leads, ValueContext}
 
 -- In code, its print leads on.
 abbrev pub Prints : List ℕ → Tree → Context → Bool → Bool → Type 0
@@ -39,7 +39,7 @@ pub record HasWanted (source : List ℕ) (w : Wanted) (a : Tree) : Type 0 where
   pub is : a ≡ Leaf t
   pub token : IsWanted source w t
 
--- a list, at each place of lists
+-- a list, in each context of lists
 pub record PrintsList (source : List ℕ) (a : Tree) : Type 0 where
   pub lines : Prints source a context.Lines true true
   pub body : Prints source a context.Body true true
@@ -57,13 +57,13 @@ pub record PrintsList (source : List ℕ) (a : Tree) : Type 0 where
 pub record PrintsValue (source : List ℕ) (a : Tree) : Type 0 where
   pub rank : Rank
   pub inside : List Piece
-  pub at : (p : Context) → ValuePlace p → printed a p ≡ around p rank inside
+  pub at : (p : Context) → ValueContext p → printed a p ≡ around p rank inside
   pub in_text : printed a context.TextItem ≡ around context.TextItem rank inside
   pub begins : opening context.TextItem rank ≡ Some sign.TextOpening
   pub ends : closing context.TextItem rank ≡ Some sign.TextClosing
   pub leads : (l : Level) (ls : List Level) → IsCode l → Leads source (l ∷ ls) true inside (l ∷ ls) false
 
--- a node that is printed alike at each place, but for the signs round it
+-- a node that is printed alike in each context, but for the signs round it
 pub record PrintsPlain (source : List ℕ) (a : Tree) : Type 0 where
   pub inside : List Piece
   pub at : (p : Context) → printed a p ≡ around p rank.Base inside

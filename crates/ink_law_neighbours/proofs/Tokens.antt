@@ -19,8 +19,12 @@ use Rattle.ink_print.specs.Surround.{rank_of_shape, opening, closing}
 use Rattle.ink_law_categories.specs.Nested.{Level, IsCode}
 use Rattle.ink_law_categories.specs.Written.{IsWorded, IsToken}
 use Rattle.ink_law_neighbours.specs.Follow.{is_word, is_value}
-use Rattle.ink_law_neighbours.proofs.Leads.{Leads, loose, a_sign, a_word, a_name, a_keyword, an_operator, ValuePlace, at_expression, at_chain, at_operand, at_base}
+use Rattle.ink_law_neighbours.proofs.Leads.{Leads, loose, a_sign, a_word, a_name, a_keyword, an_operator, ValueContext, at_expression, at_chain, at_operand, at_base}
 use Rattle.ink_law_neighbours.proofs.Says.{Prints, PrintsAnywhere, HasWord, HasWanted, PrintsValue}
+
+-- a test that has failed didn't pass
+never : {A : Type 0} → false ≡ true → A
+never failed = cc
 
 -- in a text, a token is a value where it is no part
 abbrev pub is_part : Shape → Bool
@@ -28,18 +32,18 @@ is_part shape.TextPart = true
 is_part _ = false
 
 begins-of : (x : Shape) → is_part x ≡ false → opening context.TextItem (rank_of_shape x) ≡ Some sign.TextOpening
-begins-of shape.TextPart plain = cc
+begins-of shape.TextPart plain = never (sym plain)
 begins-of (shape.Keyword keyword.Break) plain = refl
 begins-of (shape.Keyword keyword.Next) plain = refl
 begins-of _ plain = refl
 
 ends-of : (x : Shape) → is_part x ≡ false → closing context.TextItem (rank_of_shape x) ≡ Some sign.TextClosing
-ends-of shape.TextPart plain = cc
+ends-of shape.TextPart plain = never (sym plain)
 ends-of (shape.Keyword keyword.Break) plain = refl
 ends-of (shape.Keyword keyword.Next) plain = refl
 ends-of _ plain = refl
 
-leaf-at : (t : Terminal) (p : Context) → ValuePlace p → printed (Leaf t) p ≡ around p (rank_of_shape t.shape) (piece.Token t ∷ [])
+leaf-at : (t : Terminal) (p : Context) → ValueContext p → printed (Leaf t) p ≡ around p (rank_of_shape t.shape) (piece.Token t ∷ [])
 unfolding printed
 leaf-at t _ at_expression = refl
 leaf-at t _ at_chain = refl
@@ -51,11 +55,11 @@ unfolding printed
 leaf-in_text t = refl
 
 atom-plain : (x : Shape) → is wanted.Atom x ≡ true → is_part x ≡ false
-atom-plain shape.TextPart w = cc
+atom-plain shape.TextPart w = never w
 atom-plain _ w = refl
 
 jump-plain : (x : Shape) → is wanted.LoopJump x ≡ true → is_part x ≡ false
-jump-plain shape.TextPart w = cc
+jump-plain shape.TextPart w = never w
 jump-plain _ w = refl
 
 module _ {source : List ℕ} where
@@ -79,33 +83,33 @@ module _ {source : List ℕ} where
   operator-leads (shape.Mark mark.Plus) e w worded l ls code = an_operator code (ap class_of_shape e) worded
   operator-leads (shape.Keyword keyword.And) e w worded l ls code = a_keyword keyword.And code e worded
   operator-leads (shape.Keyword keyword.Or) e w worded l ls code = a_keyword keyword.Or code e worded
-  operator-leads _ e w worded l ls code = cc
+  operator-leads _ e w worded l ls code = never w
 
   setter-leads : {t : Terminal} {f : Bool} (x : Shape) → t.shape ≡ x → is wanted.Setter x ≡ true → IsWorded source t → (l : Level) (ls : List Level) → IsCode l → Leads source (l ∷ ls) f (piece.Token t ∷ []) (l ∷ ls) true
   setter-leads (shape.Mark mark.Equals) e w worded l ls code = an_operator code (ap class_of_shape e) worded
   setter-leads (shape.Mark mark.Swap) e w worded l ls code = an_operator code (ap class_of_shape e) worded
   setter-leads (shape.Mark mark.OperatorEquals) e w worded l ls code = an_operator code (ap class_of_shape e) worded
-  setter-leads (shape.Keyword keyword.And) e w worded l ls code = cc
-  setter-leads _ e w worded l ls code = cc
+  setter-leads (shape.Keyword keyword.And) e w worded l ls code = never w
+  setter-leads _ e w worded l ls code = never w
 
   borrow-leads : {t : Terminal} {f : Bool} (x : Shape) → t.shape ≡ x → is wanted.BorrowWord x ≡ true → IsWorded source t → (l : Level) (ls : List Level) → IsCode l → Leads source (l ∷ ls) f (piece.Token t ∷ []) (l ∷ ls) true
   borrow-leads (shape.Keyword keyword.Ref) e w worded l ls code = a_keyword keyword.Ref code e worded
   borrow-leads (shape.Keyword keyword.Mut) e w worded l ls code = a_keyword keyword.Mut code e worded
-  borrow-leads (shape.Mark mark.LeftParen) e w worded l ls code = cc
-  borrow-leads _ e w worded l ls code = cc
+  borrow-leads (shape.Mark mark.LeftParen) e w worded l ls code = never w
+  borrow-leads _ e w worded l ls code = never w
 
   prefix-leads : {t : Terminal} {f : Bool} (x : Shape) → t.shape ≡ x → is wanted.TypePrefix x ≡ true → IsWorded source t → (l : Level) (ls : List Level) → IsCode l → Leads source (l ∷ ls) f (piece.Token t ∷ []) (l ∷ ls) true
   prefix-leads (shape.Keyword keyword.Ref) e w worded l ls code = a_keyword keyword.Ref code e worded
   prefix-leads (shape.Keyword keyword.Mut) e w worded l ls code = a_keyword keyword.Mut code e worded
   prefix-leads (shape.Keyword keyword.Uni) e w worded l ls code = a_keyword keyword.Uni code e worded
-  prefix-leads (shape.Mark mark.LeftParen) e w worded l ls code = cc
-  prefix-leads _ e w worded l ls code = cc
+  prefix-leads (shape.Mark mark.LeftParen) e w worded l ls code = never w
+  prefix-leads _ e w worded l ls code = never w
 
   jump-leads : {t : Terminal} {f : Bool} (x : Shape) → t.shape ≡ x → is wanted.LoopJump x ≡ true → IsWorded source t → (l : Level) (ls : List Level) → IsCode l → Leads source (l ∷ ls) f (piece.Token t ∷ []) (l ∷ ls) true
   jump-leads (shape.Keyword keyword.Break) e w worded l ls code = a_keyword keyword.Break code e worded
   jump-leads (shape.Keyword keyword.Next) e w worded l ls code = a_keyword keyword.Next code e worded
-  jump-leads (shape.Mark mark.LeftParen) e w worded l ls code = cc
-  jump-leads _ e w worded l ls code = cc
+  jump-leads (shape.Mark mark.LeftParen) e w worded l ls code = never w
+  jump-leads _ e w worded l ls code = never w
 
   atom-leads : {t : Terminal} (x : Shape) → t.shape ≡ x → is wanted.Atom x ≡ true → IsWorded source t → (l : Level) (ls : List Level) → IsCode l → Leads source (l ∷ ls) true (piece.Token t ∷ []) (l ∷ ls) false
   atom-leads shape.Integer e w worded l ls code = a_word code (ap is_word e) worded
@@ -115,8 +119,8 @@ module _ {source : List ℕ} where
   atom-leads (shape.Keyword keyword.False) e w worded l ls code = a_keyword keyword.False code e worded
   atom-leads (shape.Keyword keyword.Nil) e w worded l ls code = a_keyword keyword.Nil code e worded
   atom-leads (shape.Keyword keyword.SelfWord) e w worded l ls code = a_keyword keyword.SelfWord code e worded
-  atom-leads (shape.Mark mark.LeftParen) e w worded l ls code = cc
-  atom-leads _ e w worded l ls code = cc
+  atom-leads (shape.Mark mark.LeftParen) e w worded l ls code = never w
+  atom-leads _ e w worded l ls code = never w
 
   pattern-leads : {t : Terminal} (x : Shape) → t.shape ≡ x → is wanted.PatternAtom x ≡ true → IsWorded source t → (l : Level) (ls : List Level) → IsCode l → Leads source (l ∷ ls) true (piece.Token t ∷ []) (l ∷ ls) false
   pattern-leads shape.Underscore e w worded l ls code = a_word code (ap is_word e) worded
@@ -125,8 +129,8 @@ module _ {source : List ℕ} where
   pattern-leads shape.Name e w worded l ls code = a_word code (ap is_word e) worded
   pattern-leads (shape.Keyword keyword.True) e w worded l ls code = a_keyword keyword.True code e worded
   pattern-leads (shape.Keyword keyword.False) e w worded l ls code = a_keyword keyword.False code e worded
-  pattern-leads (shape.Mark mark.LeftParen) e w worded l ls code = cc
-  pattern-leads _ e w worded l ls code = cc
+  pattern-leads (shape.Mark mark.LeftParen) e w worded l ls code = never w
+  pattern-leads _ e w worded l ls code = never w
 
   -- the same of trees
   at_expression-in : {a : Tree} {t : Terminal} {l : Level} {ls : List Level} {f g : Bool} → a ≡ Leaf t → Leads source (l ∷ ls) f (piece.Token t ∷ []) (l ∷ ls) g → Leads source (l ∷ ls) f (printed a context.Expression) (l ∷ ls) g

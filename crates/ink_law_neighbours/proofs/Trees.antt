@@ -24,13 +24,13 @@ use Rattle.ink_law_categories.specs.Categories as category
 use Rattle.ink_law_categories.specs.Categories.{Category, IsA}
 use Rattle.ink_law_neighbours.specs.Follow as follow
 use Rattle.ink_law_neighbours.specs.Follow.{Follow, is_word}
-use Rattle.ink_law_neighbours.proofs.Leads.{Leads, done, free, then, loose, eased, line, a_sign, braces, in_value, ValuePlace, at_expression, at_chain, at_operand, at_base, around_value}
+use Rattle.ink_law_neighbours.proofs.Leads.{Leads, done, free, then, loose, eased, line, a_sign, braces, in_value, ValueContext, at_expression, at_chain, at_operand, at_base, around_value}
 use Rattle.ink_law_neighbours.proofs.Says.{Prints, PrintsAnywhere, HasWord, PrintsList, PrintsValue, PrintsPlain, PrintsBlock, PrintsCounted, Fit, Says}
 use Rattle.ink_law_neighbours.proofs.Tokens.{word-in, keyword-in, operator-in, setter-in, borrow-in, prefix-in, pattern-in, link-in, implemented-in, atom-value, jump-value, word-value}
 
 module _ {source : List ℕ} where
-  -- a value at a place of values
-  pub value-at : {a : Tree} {p : Context} → ValuePlace p → PrintsValue source a → Prints source a p true false
+  -- a value in a context of values
+  pub value-at : {a : Tree} {p : Context} → ValueContext p → PrintsValue source a → Prints source a p true false
   value-at {p = p} at v l ls code = subst (λ ps. Leads source (l ∷ ls) true ps (l ∷ ls) false) (sym (v.at p at)) (around_value at v.rank code (v.leads l ls code))
 
   -- a value in a text

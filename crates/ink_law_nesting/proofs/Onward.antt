@@ -11,26 +11,26 @@ use Rattle.ink_tokens.specs.declared.reading.Read.{Read}
 use Rattle.ink_tokens.specs.Bytes.{is_quote as is_quote'}
 use Rattle.ink_tokens.specs.Fault.{is_wide_integer}
 use Rattle.ink_tokens.specs.declared.reading.Found.TheVariants as found
-use Rattle.ink_tokens.specs.Found.{found_at, form_at, brace_at, opening_quote, closing, opened_brace, closed_brace, part_of}
+use Rattle.ink_tokens.specs.Found.{found_at, match_at, brace_at, opening_quote, closing, opened_brace, closed_brace, part_of}
 use Rattle.ink_tokens.specs.Nest.{Nest, changed, left}
 use Rattle.ink_tokens.specs.Part.{part_length, begins_opening}
 use Rattle.ink_tokens.specs.Spelling.{IsSpelled}
-use Rattle.ink_tokens.proofs.FormLemmas.{form_at-spelled}
+use Rattle.ink_tokens.proofs.MatchLemmas.{match_at-spelled}
 use Rattle.ink_tokens.proofs.SpellingLemmas.{first_byte}
 use Rattle.ink_grammar.specs.declared.token.Terminal.{Terminal}
 use Rattle.ink_grammar.specs.declared.token.Mark.TheVariants as mark
 use Rattle.ink_grammar.specs.declared.token.Shape.TheVariants as shape
-use Rattle.ink_shapes.specs.Shaped.{shape_by, mark_shape}
+use Rattle.ink_shapes.specs.Terminals.{shape_by, mark_shape}
 use Rattle.ink_shapes.specs.Marks.{mark_of, is_written}
 use Rattle.ink_print.specs.Layout.{token_text}
 use Rattle.ink_law_categories.specs.Written.{IsWorded, IsQuote, IsPartOf, quote_of}
 use Rattle.ink_law_categories.specs.Nested as nested
 use Rattle.ink_law_nesting.specs.Opened.{IsOpen, outside, in_text, in_value, in_braces, in_inner_braces, NoPartBehind}
-use Rattle.ink_tokens.proofs.LengthLemmas.{form-within}
+use Rattle.ink_tokens.proofs.LengthLemmas.{match-within}
 use Rattle.ink_law_nesting.proofs.Spelled.{with_sign, Tells, spelled-tells}
 use Rattle.ink_law_nesting.proofs.Spelled as tells
 use Rattle.ink_law_nesting.proofs.Parts.{part-within, part-stops, part-alone}
-use Rattle.ink_law_nesting.proofs.ReadCases.{CodeRead, quote, brace, form, TextRead, closes, opens, part, code-read, text-read, text-no_gap}
+use Rattle.ink_law_nesting.proofs.ReadCases.{CodeRead, quote, brace, longest, TextRead, closes, opens, part, code-read, text-read, text-no_gap}
 
 -- a token that was read at the front of these bytes, of so many of them
 pub record IsRead (source bytes : List ℕ) (read : Read) (t : Terminal) : Type 0 where
@@ -52,17 +52,17 @@ code-stops source (nested.Inside q ends) ms at code = absurd code
 code-stops source nested.Embedded ms at code = tt
 code-stops source nested.Braces ms at code = tt
 
--- a form that was read takes a byte, and is spelled as its kind
-form-spelled : (bytes : List ℕ) (flag : Bool) (read : Read) → read.kind ≡ (form_at flag bytes).kind → read.length ≡ (form_at flag bytes).length →
-    0 < (form_at flag bytes).length → IsSpelled true (take read.length bytes) read.kind
-form-spelled bytes flag read kind' length' some =
+-- a match that was read takes a byte, and is spelled as its kind
+match-spelled : (bytes : List ℕ) (flag : Bool) (read : Read) → read.kind ≡ (match_at flag bytes).kind → read.length ≡ (match_at flag bytes).length →
+    0 < (match_at flag bytes).length → IsSpelled true (take read.length bytes) read.kind
+match-spelled bytes flag read kind' length' some =
     with_sign flag (take read.length bytes) read.kind
     (subst (λ n. IsSpelled flag (take n bytes) read.kind) (sym length')
-    (subst (IsSpelled flag (take (form_at flag bytes).length bytes)) (sym kind') (form_at-spelled flag bytes some)))
+    (subst (IsSpelled flag (take (match_at flag bytes).length bytes)) (sym kind') (match_at-spelled flag bytes some)))
 
 -- its token is written so
-form-worded : (source bytes : List ℕ) (t : Terminal) (read : Read) → IsSpelled true (take read.length bytes) read.kind → IsRead source bytes read t → IsWorded source t
-form-worded source bytes t read spelled is = record {
+match-worded : (source bytes : List ℕ) (t : Terminal) (read : Read) → IsSpelled true (take read.length bytes) read.kind → IsRead source bytes read t → IsWorded source t
+match-worded source bytes t read spelled is = record {
   kind = read.kind;
   shape = ap (shape_by read.kind) is.text ∙ sym is.shape;
   spelled = subst (λ text. IsSpelled true text read.kind) (sym is.text) spelled;
@@ -70,9 +70,9 @@ form-worded source bytes t read spelled is = record {
 }
 
 -- and its shape tells its first byte, if it is a brace
-form-tells : (source bytes : List ℕ) (t : Terminal) (read : Read) → 0 < read.length → IsSpelled true (take read.length bytes) read.kind → IsRead source bytes read t →
+match-tells : (source bytes : List ℕ) (t : Terminal) (read : Read) → 0 < read.length → IsSpelled true (take read.length bytes) read.kind → IsRead source bytes read t →
     Tells t.shape (slice_index bytes 0)
-form-tells source bytes t read some spelled is =
+match-tells source bytes t read some spelled is =
     subst (Tells t.shape) (first_byte read.length bytes some)
     (subst (λ x. Tells x (slice_index (take read.length bytes) 0)) (sym is.shape) (spelled-tells (take read.length bytes) read.kind spelled))
 
@@ -100,7 +100,7 @@ quote-onward source bytes l ls m ms t opened at later code opens' some is_quote 
       stops = tt;
     }
 
--- a form that opens and closes nothing
+-- a token that opens and closes nothing
 flat-onward : (source : List ℕ) (l : Level) (ls : List Level) (m : nested.Level) (ms : List nested.Level) (t : Terminal) (opened later : ℕ) →
     nested.IsCode m → IsOpen source l ls (m ∷ ms) → nested.is_flat t.shape ≡ true → IsWorded source t →
     Onward source t (record { level = l; outer = ls; opened = opened }) (m ∷ ms) later
@@ -111,9 +111,9 @@ flat-onward source l ls m ms t opened later code opens' flat worded = record {
   stops = code-stops source m ms later code;
 }
 
--- a form as it is read
-abbrev form-of : Bool → Before → List ℕ → Read
-form-of flag before bytes = record { kind = (form_at flag bytes).kind; length = (form_at flag bytes).length; change = Stay; before = before }
+-- a match as it is read
+abbrev match-of : Bool → Before → List ℕ → Read
+match-of flag before bytes = record { kind = (match_at flag bytes).kind; length = (match_at flag bytes).length; change = Stay; before = before }
 
 -- outside of texts
 outside-onward : (source bytes : List ℕ) (t : Terminal) (read : Read) (opened at later : ℕ) → 0 < length bytes → CodeRead level.Outside bytes read → IsRead source bytes read t →
@@ -122,10 +122,10 @@ unfolding changed brace_at
 outside-onward source bytes t _ opened at later some (quote is_quote) is =
     quote-onward source bytes level.Outside [] nested.Outside [] t opened at later tt outside some is_quote is
 outside-onward source bytes t read opened at later some (brace paired) is = cc
-outside-onward source bytes t _ opened at later some (form {before} flag none takes) is =
-    let spelled = form-spelled bytes flag (form-of flag before bytes) refl refl takes in
-    elim (form-tells source bytes t (form-of flag before bytes) takes spelled is) [
-      | tells.flat flat ↦ flat-onward source level.Outside [] nested.Outside [] t opened later tt outside flat (form-worded source bytes t (form-of flag before bytes) spelled is)
+outside-onward source bytes t _ opened at later some (longest {before} flag none takes) is =
+    let spelled = match-spelled bytes flag (match-of flag before bytes) refl refl takes in
+    elim (match-tells source bytes t (match-of flag before bytes) takes spelled is) [
+      | tells.flat flat ↦ flat-onward source level.Outside [] nested.Outside [] t opened later tt outside flat (match-worded source bytes t (match-of flag before bytes) spelled is)
       | tells.left left first ↦ record { behind = nested.Outside ∷ []; nests = nested.left_brace left nested.none; opened = outside; stops = tt }
       | tells.right right first ↦ record { behind = nested.Outside ∷ []; nests = nested.right_brace right nested.none; opened = outside; stops = tt }
     ]
@@ -143,7 +143,7 @@ right-shape = refl
 brace-text : (bytes : List ℕ) (byte : ℕ) → 0 < length bytes → (slice_index bytes 0 == byte) ≡ true → take 1 bytes ≡ byte ∷ []
 brace-text bytes byte some same = one-byte bytes some ∙ ap (λ b. b ∷ []) (eqb-true (slice_index bytes 0) byte same)
 
--- where braces are paired, none is a form
+-- where braces are paired, none is a match
 no-brace-left : (first : ℕ) → brace_at level.Embedded first ≡ None → first ≡ 123 → ⊥
 unfolding brace_at
 no-brace-left first none is = let never : brace_at level.Embedded 123 ≡ None = subst (λ b. brace_at level.Embedded b ≡ None) is none in cc
@@ -192,10 +192,10 @@ value-onward source bytes t read q ls open-quote ms opened at later inner some (
       stops = tt;
     }) is)
     (paired-cases (slice_index bytes 0) opened_brace closing read (slice_index bytes 0 == 123) (slice_index bytes 0 == 125) refl refl paired)
-value-onward source bytes t _ q ls open-quote ms opened at later inner some (form {before} flag none takes) is =
-    let spelled = form-spelled bytes flag (form-of flag before bytes) refl refl takes in
-    elim (form-tells source bytes t (form-of flag before bytes) takes spelled is) [
-      | tells.flat flat ↦ flat-onward source level.Embedded (level.Text q ∷ ls) nested.Embedded (nested.Inside open-quote false ∷ ms) t opened later tt (in_value inner) flat (form-worded source bytes t (form-of flag before bytes) spelled is)
+value-onward source bytes t _ q ls open-quote ms opened at later inner some (longest {before} flag none takes) is =
+    let spelled = match-spelled bytes flag (match-of flag before bytes) refl refl takes in
+    elim (match-tells source bytes t (match-of flag before bytes) takes spelled is) [
+      | tells.flat flat ↦ flat-onward source level.Embedded (level.Text q ∷ ls) nested.Embedded (nested.Inside open-quote false ∷ ms) t opened later tt (in_value inner) flat (match-worded source bytes t (match-of flag before bytes) spelled is)
       | tells.left left first ↦ absurd (no-brace-left (slice_index bytes 0) none first)
       | tells.right right first ↦ absurd (no-brace-right (slice_index bytes 0) none first)
     ]
@@ -224,10 +224,10 @@ braces-onward source bytes t read l ls m ms opened at later code inner whole som
       stops = code-stops source m ms later code;
     }) is)
     (paired-cases (slice_index bytes 0) opened_brace closed_brace read (slice_index bytes 0 == 123) (slice_index bytes 0 == 125) refl refl paired)
-braces-onward source bytes t _ l ls m ms opened at later code inner whole some (form {before} flag none takes) is =
-    let spelled = form-spelled bytes flag (form-of flag before bytes) refl refl takes in
-    elim (form-tells source bytes t (form-of flag before bytes) takes spelled is) [
-      | tells.flat flat ↦ flat-onward source level.Braces (l ∷ ls) nested.Braces (m ∷ ms) t opened later tt whole flat (form-worded source bytes t (form-of flag before bytes) spelled is)
+braces-onward source bytes t _ l ls m ms opened at later code inner whole some (longest {before} flag none takes) is =
+    let spelled = match-spelled bytes flag (match-of flag before bytes) refl refl takes in
+    elim (match-tells source bytes t (match-of flag before bytes) takes spelled is) [
+      | tells.flat flat ↦ flat-onward source level.Braces (l ∷ ls) nested.Braces (m ∷ ms) t opened later tt whole flat (match-worded source bytes t (match-of flag before bytes) spelled is)
       | tells.left left first ↦ absurd (no-inner-left (slice_index bytes 0) none first)
       | tells.right right first ↦ absurd (no-inner-right (slice_index bytes 0) none first)
     ]
@@ -316,7 +316,7 @@ code-within level.Embedded bytes read some (brace paired) =
 code-within level.Braces bytes read some (brace paired) =
     ⊎_elim (λ left. subst (λ r. r.length ≤ length bytes) left.1 some) (λ right. subst (λ r. r.length ≤ length bytes) right.1 some)
     (paired-cases (slice_index bytes 0) opened_brace closed_brace read (slice_index bytes 0 == 123) (slice_index bytes 0 == 125) refl refl paired)
-code-within l bytes _ some (form flag none takes) = form-within flag bytes
+code-within l bytes _ some (longest flag none takes) = match-within flag bytes
 
 -- no second byte is no {
 second-there : (first : ℕ) (b : Bool) → (b && (0 == 123)) ≡ true → 2 ≤ length (first ∷ [])

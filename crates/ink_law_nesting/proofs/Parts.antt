@@ -2,29 +2,19 @@
 use Rattle.std.proofs.Common.{◌≡◌, ℕ, zero, suc, ◌+◌, ◌≤◌, Bool, true, false, cond, ◌||◌, ◌==◌, List, [], ◌∷◌, length, take, drop, refl, arith, sym, ap, ◌∙◌, subst}
 use Rattle.ink_tokens.specs.Bytes.{is_escaped}
 use Rattle.ink_tokens.specs.Part.{part_length, begins_opening}
-
--- what is chosen twice
-both-chosen : {A : Type 0} (P : A → Type 0) (b : Bool) (one other : A) → P one → P other → P (cond b one other)
-both-chosen P true one other first second = first
-both-chosen P false one other first second = second
-
-one_more : (n : ℕ) → suc n ≡ 1 + n
-one_more n = omega arith
-
-two_more : (n : ℕ) → suc (suc n) ≡ 2 + n
-two_more n = omega arith
+use Rattle.ink_tokens.proofs.Choices.{chosen-keeps, one_more, two_more}
 
 -- a part is within the bytes
 pub part-within : (quote : ℕ) (bytes : List ℕ) → part_length quote bytes ≤ length bytes
 unfolding part_length
 part-within quote [] = omega arith
-part-within quote (last ∷ []) = both-chosen (λ n. n ≤ 1) _ 0 1 (omega arith) (omega arith)
+part-within quote (last ∷ []) = chosen-keeps (λ n. n ≤ 1) _ 0 1 (omega arith) (omega arith)
 part-within quote (byte ∷ next ∷ rest) =
     let one = part-within quote rest in
     let other = part-within quote (next ∷ rest) in
-    both-chosen (λ n. n ≤ length (byte ∷ next ∷ rest)) (byte == quote || begins_opening (byte ∷ next ∷ rest)) 0 _ (omega arith)
-    (both-chosen (λ n. n ≤ length (byte ∷ next ∷ rest)) (byte == 92) _ (1 + part_length quote (next ∷ rest))
-    (both-chosen (λ n. n ≤ length (byte ∷ next ∷ rest)) (is_escaped next) (2 + part_length quote rest) 0 (omega (arith, one)) (omega arith))
+    chosen-keeps (λ n. n ≤ length (byte ∷ next ∷ rest)) (byte == quote || begins_opening (byte ∷ next ∷ rest)) 0 _ (omega arith)
+    (chosen-keeps (λ n. n ≤ length (byte ∷ next ∷ rest)) (byte == 92) _ (1 + part_length quote (next ∷ rest))
+    (chosen-keeps (λ n. n ≤ length (byte ∷ next ∷ rest)) (is_escaped next) (2 + part_length quote rest) 0 (omega (arith, one)) (omega arith))
     (omega (arith, other)))
 
 -- behind a part no part stands

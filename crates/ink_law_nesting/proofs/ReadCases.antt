@@ -10,14 +10,14 @@ use Rattle.ink_tokens.specs.declared.reading.Found.TheVariants as found
 use Rattle.ink_tokens.specs.Bytes.{is_quote}
 use Rattle.ink_tokens.specs.Gap.{separator_length}
 use Rattle.ink_tokens.specs.Part.{part_length, begins_opening}
-use Rattle.ink_tokens.specs.Found.{form_at, brace_at, mark_at, opening_quote, closing_quote, opening, part_of, before_behind, may_be_signed, form_found, token_found, code_found, text_found}
+use Rattle.ink_tokens.specs.Found.{match_at, brace_at, mark_at, opening_quote, closing_quote, opening, part_of, before_behind, may_be_signed, match_found, token_found, code_found, text_found}
 
--- outside of texts, or in a `${`: a quote, a brace that is paired, or the longest form
+-- outside of texts, or in a `${`: a quote, a brace that is paired, or the longest match
 pub data CodeRead (l : Level) (bytes : List ℕ) : Read → Type 0 where
   quote : is_quote (slice_index bytes 0) ≡ true → CodeRead l bytes (opening_quote (slice_index bytes 0))
   brace : {read : Read} → brace_at l (slice_index bytes 0) ≡ Some read → CodeRead l bytes read
-  form : {before : Before} (flag : Bool) → brace_at l (slice_index bytes 0) ≡ None → 0 < (form_at flag bytes).length →
-      CodeRead l bytes (record { kind = (form_at flag bytes).kind; length = (form_at flag bytes).length; change = Stay; before = before })
+  longest : {before : Before} (flag : Bool) → brace_at l (slice_index bytes 0) ≡ None → 0 < (match_at flag bytes).length →
+      CodeRead l bytes (record { kind = (match_at flag bytes).kind; length = (match_at flag bytes).length; change = Stay; before = before })
 
 -- in a text: its quote, a `${`, or a part
 pub data TextRead (q : ℕ) (bytes : List ℕ) : Read → Type 0 where
@@ -29,27 +29,27 @@ not_zero : (n : ℕ) → (n == 0) ≡ false → 0 < n
 not_zero zero is = cc
 not_zero (suc n) is = omega arith
 
--- a form that is found takes a byte
-form-read : (l : Level) (bytes : List ℕ) (flag : Bool) (read : Read) (b : Bool) → ((form_at flag bytes).length == 0) ≡ b →
+-- a match that is found takes a byte
+match-read : (l : Level) (bytes : List ℕ) (flag : Bool) (read : Read) (b : Bool) → ((match_at flag bytes).length == 0) ≡ b →
     brace_at l (slice_index bytes 0) ≡ None →
-    cond b found.Nothing (found.Token (record { kind = (form_at flag bytes).kind; length = (form_at flag bytes).length; change = Stay; before = before_behind (form_at flag bytes).kind (take (form_at flag bytes).length bytes) })) ≡ found.Token read →
+    cond b found.Nothing (found.Token (record { kind = (match_at flag bytes).kind; length = (match_at flag bytes).length; change = Stay; before = before_behind (match_at flag bytes).kind (take (match_at flag bytes).length bytes) })) ≡ found.Token read →
     CodeRead l bytes read
-form-read l bytes flag read true none outside is = cc
-form-read l bytes flag read false some outside is =
-    let same : record { kind = (form_at flag bytes).kind; length = (form_at flag bytes).length; change = Stay; before = before_behind (form_at flag bytes).kind (take (form_at flag bytes).length bytes) } ≡ read = cc in
-    subst (CodeRead l bytes) same (form flag outside (not_zero (form_at flag bytes).length some))
+match-read l bytes flag read true none outside is = cc
+match-read l bytes flag read false some outside is =
+    let same : record { kind = (match_at flag bytes).kind; length = (match_at flag bytes).length; change = Stay; before = before_behind (match_at flag bytes).kind (take (match_at flag bytes).length bytes) } ≡ read = cc in
+    subst (CodeRead l bytes) same (longest flag outside (not_zero (match_at flag bytes).length some))
 
--- a brace, or else a form
+-- a brace, or else a match
 brace-read : (l : Level) (bytes : List ℕ) (flag : Bool) (read : Read) (o : Option Read) → brace_at l (slice_index bytes 0) ≡ o →
-    token_found o (form_at flag bytes) bytes ≡ found.Token read → CodeRead l bytes read
-unfolding token_found form_found
-brace-read l bytes flag read None outside is = form-read l bytes flag read ((form_at flag bytes).length == 0) refl outside is
+    token_found o (match_at flag bytes) bytes ≡ found.Token read → CodeRead l bytes read
+unfolding token_found match_found
+brace-read l bytes flag read None outside is = match-read l bytes flag read ((match_at flag bytes).length == 0) refl outside is
 brace-read l bytes flag read (Some mark) paired is =
     let same : mark ≡ read = cc in brace (paired ∙ ap (λ r. Some r) same)
 
 -- a quote, or else that
 quote-read : (l : Level) (bytes : List ℕ) (flag : Bool) (read : Read) (b : Bool) → is_quote (slice_index bytes 0) ≡ b →
-    token_found (cond b (Some (opening_quote (slice_index bytes 0))) (brace_at l (slice_index bytes 0))) (form_at flag bytes) bytes ≡ found.Token read →
+    token_found (cond b (Some (opening_quote (slice_index bytes 0))) (brace_at l (slice_index bytes 0))) (match_at flag bytes) bytes ≡ found.Token read →
     CodeRead l bytes read
 unfolding token_found
 quote-read l bytes flag read true is_quote is =

@@ -15,7 +15,7 @@ use Rattle.ink_tokens.specs.Found.{found_at}
 use Rattle.ink_tokens.specs.Scan.{Scan, behind_gap, behind_token, token_at}
 use Rattle.ink_tokens.specs.Lexes.{Gives, Goes, Ends, end_outcome, step_by, step_at, Lexes, begins, goes, AreTokens}
 use Rattle.ink_grammar.specs.declared.token.Terminal.{Terminal}
-use Rattle.ink_shapes.specs.Shaped.{shaped, shape_by}
+use Rattle.ink_shapes.specs.Terminals.{terminal_of, shape_by}
 use Rattle.ink_print.specs.Layout.{token_text}
 use Rattle.ink_law_categories.specs.Nested as nested
 use Rattle.ink_law_nesting.specs.Opened.{IsOpen, outside, in_text, in_value, in_braces, in_inner_braces, NoPartBehind}
@@ -39,7 +39,7 @@ nested-then (nested.closes_value is rest) more = nested.closes_value is (nested-
 -- what stands of a source that was read up to a place
 record Stands (source : List ℕ) (scan : Scan) : Type 0 where
   pub levels : List nested.Level
-  pub nests : nested.Nested source (nested.Outside ∷ []) (map (shaped source) scan.tokens) levels
+  pub nests : nested.Nested source (nested.Outside ∷ []) (map (terminal_of source) scan.tokens) levels
   pub opened : IsOpen source scan.nest.level scan.nest.outer levels
   pub stops : NoPartBehind source levels scan.at
 
@@ -66,11 +66,11 @@ slice-front source at n = ap (λ k. take k (drop at source)) (omega arith)
 -- the token that was read there
 is-read : (source : List ℕ) (scan : Scan) (read : Read) → scan.at + read.length ≤ length source →
     is_wide_integer read.kind (slice_range source scan.at (scan.at + read.length)) ≡ false →
-    IsRead source (drop scan.at source) read (shaped source (token_at scan read))
+    IsRead source (drop scan.at source) read (terminal_of source (token_at scan read))
 is-read source scan read inside narrow =
     let front = slice-front source scan.at read.length in
     record {
-      text = text-inside source (shaped source (token_at scan read)) (omega arith) inside ∙ front;
+      text = text-inside source (terminal_of source (token_at scan read)) (omega arith) inside ∙ front;
       shape = ap (shape_by read.kind) front;
       narrow = ap (is_wide_integer read.kind) (sym front) ∙ narrow;
     }
@@ -83,12 +83,12 @@ stands-token source scan read stands inside is narrow =
     let some : 0 < length (drop scan.at source) = omega (arith, length-drop scan.at source) in
     let within : scan.at + read.length ≤ length source =
     omega (arith, length-drop scan.at source, found-within scan.nest.level scan.before (drop scan.at source) read some is) in
-    let on = onward source (shaped source (token_at scan read)) scan.nest.level scan.nest.outer stands.levels scan.nest.opened scan.at scan.before read
+    let on = onward source (terminal_of source (token_at scan read)) scan.nest.level scan.nest.outer stands.levels scan.nest.opened scan.at scan.before read
     stands.opened stands.stops some is (is-read source scan read within narrow) in
     record {
       levels = on.behind;
       nests = subst (λ ts. nested.Nested source (nested.Outside ∷ []) ts on.behind)
-          (sym (map-append (shaped source) scan.tokens (token_at scan read ∷ []))) (nested-then stands.nests on.nests);
+          (sym (map-append (terminal_of source) scan.tokens (token_at scan read ∷ []))) (nested-then stands.nests on.nests);
       opened = on.opened;
       stops = on.stops;
     }
@@ -187,13 +187,13 @@ chosen-end source scan tokens false same = given (end_fault scan.nest.level scan
 
 -- the tokens of a source nest
 pub tokens-nest : (source : List ℕ) (tokens : List scanned.Token) → AreTokens source tokens →
-    nested.Nested source (nested.Outside ∷ []) (map (shaped source) tokens) (nested.Outside ∷ [])
+    nested.Nested source (nested.Outside ∷ []) (map (terminal_of source) tokens) (nested.Outside ∷ [])
 unfolding step_at
 tokens-nest source tokens are =
     let scan = are.scan in
     let end = chosen-end source scan tokens (nat_lt scan.at (length source)) are.ends in
     let out = ends-outside scan.nest.level scan.wide scan.nest.opened end.0 in
     let stands = scanned-stands are.lexes out.1 in
-    subst (λ ts. nested.Nested source (nested.Outside ∷ []) (map (shaped source) ts) (nested.Outside ∷ [])) end.1
-    (subst (λ ms. nested.Nested source (nested.Outside ∷ []) (map (shaped source) scan.tokens) ms)
+    subst (λ ts. nested.Nested source (nested.Outside ∷ []) (map (terminal_of source) ts) (nested.Outside ∷ [])) end.1
+    (subst (λ ms. nested.Nested source (nested.Outside ∷ []) (map (terminal_of source) scan.tokens) ms)
     (outside-levels source scan.nest.level scan.nest.outer stands.levels stands.opened out.0) stands.nests)

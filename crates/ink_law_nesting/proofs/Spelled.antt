@@ -15,10 +15,11 @@ use Rattle.ink_grammar.specs.declared.token.Shape.{Shape}
 use Rattle.ink_grammar.specs.declared.token.Shape.TheVariants as shape
 use Rattle.ink_shapes.specs.Keywords.{keyword_of}
 use Rattle.ink_shapes.specs.Marks as marks
-use Rattle.ink_shapes.specs.Shaped.{shape_by, integer_shape, keyword_shape, mark_shape}
+use Rattle.ink_shapes.specs.Terminals.{shape_by, integer_shape, keyword_shape, mark_shape}
 use Rattle.ink_law_categories.specs.Nested.{is_flat}
+use Rattle.ink_tokens.proofs.Choices.{chosen-keeps}
 
--- a form may be spelled with a sign where it is spelled without
+-- a token may be spelled with a sign where it is spelled without
 pub with_sign : (flag : Bool) (text : List ℕ) (k : TokenKind) → IsSpelled flag text k → IsSpelled true text k
 with_sign flag text _ (spelled_name is) = spelled_name is
 with_sign flag text _ (spelled_const is) = spelled_const is
@@ -27,16 +28,11 @@ with_sign flag text _ (spelled_integer (inl is)) = spelled_integer (inl is)
 with_sign flag text _ (spelled_integer (inr is)) = spelled_integer (inr (refl, is.1, is.2, is.3))
 with_sign flag text _ (spelled_symbol is) = spelled_symbol is
 
--- what a form's shape tells: it opens and closes nothing, or is one of the braces
+-- what a token's shape tells: it opens and closes nothing, or is one of the braces
 pub data Tells (x : Shape) (first : ℕ) : Type 0 where
   flat : is_flat x ≡ true → Tells x first
   left : x ≡ shape.Mark mark.LeftBrace → first ≡ 123 → Tells x first
   right : x ≡ shape.Mark mark.RightBrace → first ≡ 125 → Tells x first
-
--- a test that is chosen between two
-chosen : {A : Type 0} (P : A → Type 0) (b : Bool) (one other : A) → P one → P other → P (cond b one other)
-chosen P true one other first second = first
-chosen P false one other first second = second
 
 keyword-tells : (o : Option Keyword) (first : ℕ) → Tells (keyword_shape o) first
 unfolding keyword_shape
@@ -45,13 +41,13 @@ keyword-tells (Some k) first = flat refl
 
 integer-tells : (text : List ℕ) (first : ℕ) → Tells (integer_shape text) first
 unfolding integer_shape
-integer-tells text first = chosen (λ x. Tells x first) _ shape.Hexadecimal shape.Integer (flat refl) (flat refl)
+integer-tells text first = chosen-keeps (λ x. Tells x first) _ shape.Hexadecimal shape.Integer (flat refl) (flat refl)
 
 word-tells : (text other : List ℕ) (first : ℕ) → Tells (shape_by (word_kind text) other) first
 unfolding word_kind shape_by
 word-tells text other first =
-    chosen (λ k. Tells (shape_by k other) first) (bytes_eq text (codes "_")) kind.Underscore _ (flat refl)
-    (chosen (λ k. Tells (shape_by k other) first) (is_keyword text) kind.Keyword kind.Name (keyword-tells (keyword_of other) first) (flat refl))
+    chosen-keeps (λ k. Tells (shape_by k other) first) (bytes_eq text (codes "_")) kind.Underscore _ (flat refl)
+    (chosen-keeps (λ k. Tells (shape_by k other) first) (is_keyword text) kind.Keyword kind.Name (keyword-tells (keyword_of other) first) (flat refl))
 
 or-false : (b : Bool) → (b || false) ≡ true → b ≡ true
 or-false true is = refl
@@ -96,7 +92,7 @@ unfolding marks.mark_of mark_shape
 mark-tells None text is = flat refl
 mark-tells (Some m) text is = mark-first m text (found-passes (λ mark'. marks.is_written mark' text) marks.marks m is)
 
--- what the spelling of a form tells of its shape and its first byte
+-- what the spelling of a token tells of its shape and its first byte
 pub spelled-tells : (text : List ℕ) (k : TokenKind) → IsSpelled true text k → Tells (shape_by k text) (slice_index text 0)
 unfolding shape_by
 spelled-tells text _ (spelled_name is) = word-tells text text (slice_index text 0)

@@ -27,7 +27,7 @@ use Rattle.ink_law_parsing.proofs.Steps.{Stepped, stop, put, last, next, one_chi
 use Rattle.ink_law_parsing.proofs.Words.{has, has_sign, Kept, TokenAt, token_at, word_read}
 use Rattle.ink_law_parsing.proofs.Lists.{EachOfSome, Perhaps, left_out, there, ReadAs, Items, item, widened, read_missing, body_of_some, Reading}
 use Rattle.ink_law_parsing.proofs.Types.{Typed}
-use Rattle.ink_law_parsing.proofs.Places.{At, at_widened, read_of, linkable_primary, chain_chained, Expressed, base_form}
+use Rattle.ink_law_parsing.proofs.Contexts.{At, at_widened, read_of, linkable_primary, chain_chained, Expressed, base_form}
 use Rattle.ink_law_parsing.proofs.Statements.{StatementAt, StatementTree, Blocked, Counts, ConditionKind, condition, counts, condition_of}
 use Rattle.ink_law_parsing.proofs.Patterns.{PatternKind, pattern_read}
 

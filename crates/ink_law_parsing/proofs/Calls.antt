@@ -26,7 +26,7 @@ use Rattle.ink_law_categories.specs.Alike as alike
 use Rattle.ink_law_parsing.proofs.Steps.{Stepped, stop, put, last, next, two_children, three_children, step_two, step_three}
 use Rattle.ink_law_parsing.proofs.Words.{has, has_sign, Kept, kept, TokenAt, token_at, word_read, name_read}
 use Rattle.ink_law_parsing.proofs.Lists.{Each, EachOfSome, ReadAs, Items, item, Again, widened, seen_some, seen_or_none}
-use Rattle.ink_law_parsing.proofs.Places.{headed_both, At, at_widened, read_of, Linkable, ReadsAt, Expressed, base_form}
+use Rattle.ink_law_parsing.proofs.Contexts.{headed_both, At, at_widened, read_of, Linkable, ReadsAt, Expressed, base_form}
 use Rattle.ink_law_parsing.proofs.Chains.{leaf_form}
 
 -- items that are read up to the token that closes them

@@ -27,7 +27,7 @@ use Rattle.ink_law_categories.specs.Alike as alike
 use Rattle.ink_law_parsing.proofs.Steps.{Stepped, put, last, next, two_children, three_children, step_two, step_three}
 use Rattle.ink_law_parsing.proofs.Words.{has, has_sign, Kept, kept, TokenAt, token_at, word_read, name_read, rank_of_jump}
 use Rattle.ink_law_parsing.proofs.Lists.{Perhaps, left_out, there}
-use Rattle.ink_law_parsing.proofs.Places.{headed_both, opens_same, At, at_widened, Opened, Chained, Linkable, linkable_primary, operand_linkable, ReadsAt, Expressed, moved, base_form, operand_form, chain_form, expression_form}
+use Rattle.ink_law_parsing.proofs.Contexts.{headed_both, opens_same, At, at_widened, Opened, Chained, Linkable, linkable_primary, operand_linkable, ReadsAt, Expressed, moved, base_form, operand_form, chain_form, expression_form}
 
 -- what links may follow, and what is a place
 abbrev pub PlaceKind : List Terminal → Found → Type 0

@@ -2,7 +2,7 @@ pub mod Steps
 pub mod Words
 pub mod Lists
 pub mod Types
-pub mod Places
+pub mod Contexts
 pub mod Chains
 pub mod Calls
 pub mod Patterns

@@ -93,7 +93,7 @@ pub data Between (source print : List ℕ) (x y : Shape) (a b : Tree) : List Ter
   between : {mid last : Bool} {us ws : List Terminal} (t u : Terminal) → same x t.shape ≡ true → Spells source print false (printed a context.BeforeComma) us mid → Spells source print mid (printed b context.Expression) ws last → same y u.shape ≡ true
       → Between source print x y a b (t ∷ (us ++ (ws ++ (u ∷ [])))) false
 
--- a place at which a list stands between two signs
+-- a context in which a list stands between two signs
 pub record Enclosing (source print : List ℕ) (p : Context) (x y : Shape) : Type 0 where
   pub none : (line end : Bool) (us : List Terminal) → Spells source print line (printed Missing p) us end → Spells source print line [] us end
   pub some : (k : ℕ) (a b : Tree) (line end : Bool) (us : List Terminal) → Spells source print line (printed (Two two_of.More k a b) p) us end → Between source print x y a b us end
@@ -181,7 +181,7 @@ module _ {source print : List ℕ} {G : Tree → Type 0} {P : Bool → List Term
     enclosed_or_none k f left_out h = read_missing k (enclosing.none _ _ _ h)
     enclosed_or_none k f (there g) h = widened f (enclosed_some g h)
 
-  -- items at their place, which something follows
+  -- items in their context, which something follows
   seen : {line end : Bool} {k : ℕ} {a b : Tree} {us : List Terminal} (again : Again P Rest (shape.Mark mark.Comma)) → Each G a → G b → Stepped source print (two_children a b) line (first_as context.BeforeComma ∷ second ∷ []) us end
       → ReadAs source print (λ z v. (w : List Terminal) (x : Found) → Rest v w x → Items P Rest line no_items (z ++ w) x) (Two two_of.More k a b) us
   seen again e g (next h (last m)) = sequence (listed (commas source print) again e h) g m

@@ -27,7 +27,7 @@ use Rattle.ink_law_parsing.proofs.Steps.{Stepped, put, last, next, two_children,
 use Rattle.ink_law_parsing.proofs.Words.{has, has_sign, Kept, TokenAt, token_at, word_read}
 use Rattle.ink_law_parsing.proofs.Lists.{Each, no_item, one_more, EachOfSome, with_item, Perhaps, left_out, there, ReadAs, Items, item, Again, Behind, behind, sequence, listed, pluses, widened, read_empty, read_missing, bracketed, parenthesised, enclosed_some, enclosed_or_none, Reading}
 use Rattle.ink_law_parsing.proofs.Types.{Typed}
-use Rattle.ink_law_parsing.proofs.Places.{read_of}
+use Rattle.ink_law_parsing.proofs.Contexts.{read_of}
 use Rattle.ink_law_parsing.proofs.Statements.{Blocked}
 
 -- how a list of words is read

@@ -24,7 +24,7 @@ use Rattle.ink_law_categories.specs.Alike as alike
 use Rattle.ink_law_parsing.proofs.Steps.{Split, both, split_at, Stepped, stop, put, last, next, two_children, three_children, four_children, step_two, step_three, step_four}
 use Rattle.ink_law_parsing.proofs.Words.{has, has_sign, Kept, kept, TokenAt, token_at, word_read, rank_of_atom, bracket_alike, part_read}
 use Rattle.ink_law_parsing.proofs.Lists.{Each, no_item, one_more, ReadAs, read_empty}
-use Rattle.ink_law_parsing.proofs.Places.{At, at_widened, Linkable, linkable_primary, ReadsAt, in_text, Expressed, base_form}
+use Rattle.ink_law_parsing.proofs.Contexts.{At, at_widened, Linkable, linkable_primary, ReadsAt, in_text, Expressed, base_form}
 use Rattle.ink_law_parsing.proofs.Chains.{leaf_form}
 use Rattle.ink_law_parsing.proofs.Calls.{array_items}
 

@@ -16,7 +16,7 @@ use Rattle.ink_law_categories.specs.Spells.{Spells}
 use Rattle.ink_law_parsing.proofs.Words.{Kept, kept}
 use Rattle.ink_law_parsing.proofs.Lists.{Each, no_item, one_more, EachOfSome, with_item, Perhaps, left_out, there, Reading}
 use Rattle.ink_law_parsing.proofs.Types.{Typed, BareTyped, named_type, prefixed_type, plain_type, pair_type, triple_type}
-use Rattle.ink_law_parsing.proofs.Places.{ReadsAt, Expressed}
+use Rattle.ink_law_parsing.proofs.Contexts.{ReadsAt, Expressed}
 use Rattle.ink_law_parsing.proofs.Chains.{Placed, RecoverKind, return_form, throw_form, jump_form, assignment_form, binary_form, name_form, field_form, member_form, borrow_form, try_form, recover_form}
 use Rattle.ink_law_parsing.proofs.Calls.{Constructible, ConstructorItems, NamedTree, unnamed_form, named_form, named_arguments_form, call_form, member_call_form, tuple_item_form, constant_form, qualified_form, construction_form}
 use Rattle.ink_law_parsing.proofs.Primaries.{TextTree, text_part, text_value, atom_form, text_form, pair_form, triple_form, array_form}

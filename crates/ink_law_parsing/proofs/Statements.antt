@@ -24,7 +24,7 @@ use Rattle.ink_law_categories.specs.Alike as alike
 use Rattle.ink_law_parsing.proofs.Steps.{Stepped, stop, put, last, next, one_child, two_children, three_children, four_children, step_one, step_two, step_three, step_four}
 use Rattle.ink_law_parsing.proofs.Words.{has, has_sign, Kept, TokenAt, token_at, word_read, bracket_alike}
 use Rattle.ink_law_parsing.proofs.Lists.{Each, Perhaps, left_out, there, ReadAs, Items, item, body_of_each}
-use Rattle.ink_law_parsing.proofs.Places.{Headed, opens_fresh, At, at_widened, linkable_primary, chain_chained, ReadsAt, Expressed, base_form}
+use Rattle.ink_law_parsing.proofs.Contexts.{Headed, opens_fresh, At, at_widened, linkable_primary, chain_chained, ReadsAt, Expressed, base_form}
 use Rattle.ink_law_parsing.proofs.Chains.{RecoverKind}
 
 -- a statement on a line of its own, or not

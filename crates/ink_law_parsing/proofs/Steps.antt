@@ -71,7 +71,7 @@ abbrev pub sign_step : Option Sign → List Step
 sign_step None = []
 sign_step (Some s) = step.Sign s ∷ []
 
--- steps between the signs that their place asks for
+-- steps between the signs that their context asks for
 abbrev pub surrounded : Context → Rank → List Step → List Step
 surrounded p r steps = sign_step (opening p r) ++ (steps ++ sign_step (closing p r))
 
@@ -108,7 +108,7 @@ four_children a b c d = chosen (printed a) (printed b) (printed c) (printed d) n
 abbrev pub five_children : Tree → Tree → Tree → Tree → Tree → Slot → Context → List Piece
 five_children a b c d e = chosen (printed a) (printed b) (printed c) (printed d) (printed e)
 
--- the tokens of a node at a place
+-- the tokens of a node in a context
 pub step_one : {source print : List ℕ} (form : OneChild) (s : ℕ) (a : Tree) (p : Context) {line end : Bool} {ts : List Terminal} → Spells source print line (printed (One form s a) p) ts end → Stepped source print (one_child a) line (surrounded p rank.Base (one form (inner p))) ts end
 unfolding printed
 step_one form s a p h = stepped_around (one_child a) p rank.Base (one form (inner p)) h

@@ -19,7 +19,7 @@ use Rattle.ink_tokens.specs.Nest.{Nest, changed, left}
 use Rattle.ink_tokens.specs.Scan.{begins_line}
 use Rattle.ink_tokens.specs.Lexes.{Lexes}
 use Rattle.ink_tokens.specs.Spelling.{IsSpelled}
-use Rattle.ink_shapes.specs.Shaped.{shape_by, shaped}
+use Rattle.ink_shapes.specs.Terminals.{shape_by, terminal_of}
 use Rattle.ink_grammar.specs.declared.token.Shape.{Shape}
 use Rattle.ink_grammar.specs.declared.token.Shape.TheVariants as shape
 use Rattle.ink_grammar.specs.declared.token.Terminal.{Terminal}
@@ -42,8 +42,8 @@ left-nests source (l ∷ ls) opened = refl
 pub record Advanced (source print : List ℕ) (x : Shape) (text : List ℕ) (new_line : Bool) (levels : List Level) (b : Before) (ts : List scanned.Token) (rest : List ℕ) : Type 0 where
   pub token : scanned.Token
   pub line : token.new_line ≡ new_line
-  pub shape : (shaped print token).shape ≡ x
-  pub text_is : token_text print (shaped print token) ≡ text
+  pub shape : (terminal_of print token).shape ≡ x
+  pub text_is : token_text print (terminal_of print token) ≡ text
   pub place : ℕ
   pub opened : ℕ
   pub lexes : Lexes print (state place b (nests source levels opened) (ts ++ token ∷ []))
@@ -69,7 +69,7 @@ advance source print l ls levels opened behind at b new_line ts text rest x read
       token = token_of at b read.kind (length text);
       line = line;
       shape = ap (shape_by read.kind) range ∙ shown;
-      text_is = range-text print (shaped print (token_of at b read.kind (length text))) text (omega arith) next.inside range;
+      text_is = range-text print (terminal_of print (token_of at b read.kind (length text))) text (omega arith) next.inside range;
       place = at + length text;
       opened = behind;
       lexes = subst (λ n. Lexes print (state (at + length text) read.before n (ts ++ token_of at b read.kind (length text) ∷ []))) nest

@@ -17,12 +17,12 @@ use Rattle.ink_tokens.specs.Part.{begins_opening, part_length}
 use Rattle.ink_tokens.specs.Bytes.{is_escaped}
 use Rattle.ink_tokens.specs.Scan.{begins_line}
 use Rattle.ink_tokens.specs.Lexes.{Lexes}
-use Rattle.ink_shapes.specs.Shaped.{shape_by}
+use Rattle.ink_shapes.specs.Terminals.{shape_by}
 use Rattle.ink_grammar.specs.declared.token.Shape.TheVariants as shape
 use Rattle.ink_grammar.specs.declared.token.Terminal.{Terminal}
 use Rattle.ink_law_categories.specs.Written.{quote_of}
 use Rattle.ink_law_categories.specs.Nested.{Level, Inside, Embedded, Braces}
-use Rattle.ink_law_scanning.proofs.Leads.{both-one, both-other}
+use Rattle.ink_tokens.proofs.Choices.{both-one, both-other}
 use Rattle.ink_law_scanning.proofs.Advance.{nests, left-nests, Advanced, advance, mark-found}
 use Rattle.ink_law_scanning.proofs.Steps.{At, state}
 

@@ -10,7 +10,7 @@ use Rattle.ink_tokens.specs.Lexes.{Lexes}
 use Rattle.ink_tokens.specs.Scan.{begins_line}
 use Rattle.ink_tokens.specs.Spelling.{spelled_symbol}
 use Rattle.ink_tokens.specs.Words.{is_single, ends_bracket}
-use Rattle.ink_shapes.specs.Shaped.{shape_by}
+use Rattle.ink_shapes.specs.Terminals.{shape_by}
 use Rattle.ink_grammar.specs.declared.token.Shape.TheVariants as shape
 use Rattle.ink_grammar.specs.declared.token.Terminal.{Terminal}
 use Rattle.ink_print.specs.declared.class.Class.{Class}

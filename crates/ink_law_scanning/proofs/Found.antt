@@ -8,21 +8,21 @@ use Rattle.std.specs.Char.{is_ascii_digit, is_ascii_uppercase}
 use Rattle.ink_base.specs.declared.token.TokenKind.{TokenKind}
 use Rattle.ink_tokens.specs.declared.reading.Before.{Before}
 use Rattle.ink_tokens.specs.declared.reading.Change.TheVariants.{Stay}
-use Rattle.ink_tokens.specs.declared.reading.Form.{Form}
+use Rattle.ink_tokens.specs.declared.reading.Match.{Match}
 use Rattle.ink_tokens.specs.declared.reading.Found.TheVariants as found
 use Rattle.ink_tokens.specs.declared.reading.Level.{Level}
 use Rattle.ink_tokens.specs.declared.reading.Level.TheVariants as level
 use Rattle.ink_tokens.specs.declared.reading.Read.{Read}
 use Rattle.ink_tokens.specs.Bytes.{begins_name, is_quote}
 use Rattle.ink_tokens.specs.Gap.{is_blank, separator_length}
-use Rattle.ink_tokens.specs.Found.{form_at, form_found, token_found, code_found, mark_at, brace_at, may_be_signed, before_behind}
+use Rattle.ink_tokens.specs.Found.{match_at, match_found, token_found, code_found, mark_at, brace_at, may_be_signed, before_behind}
 use Rattle.ink_tokens.specs.Words.{is_pair}
 use Rattle.ink_tokens.specs.Spelling.{IsSpelled, spelled_name, spelled_const, spelled_field, spelled_integer, spelled_symbol}
-use Rattle.ink_tokens.proofs.FormLemmas.{form_at-spelled}
-use Rattle.ink_tokens.proofs.SpellingLemmas.{form_at-longest}
+use Rattle.ink_tokens.proofs.MatchLemmas.{match_at-spelled}
+use Rattle.ink_tokens.proofs.SpellingLemmas.{match_at-longest}
 use Rattle.ink_law_scanning.proofs.Leads.{extends}
-use Rattle.ink_tokens.proofs.LengthLemmas.{form-within}
-use Rattle.ink_law_scanning.proofs.Forms.{one_kind, inner-extends, first_digit}
+use Rattle.ink_tokens.proofs.LengthLemmas.{match-within}
+use Rattle.ink_law_scanning.proofs.Matches.{one_kind, inner-extends, first_digit}
 
 -- no longer text at the front is spelled as a token
 abbrev pub IsLast : Bool → List ℕ → List ℕ → Type 0
@@ -72,30 +72,30 @@ last-lone m b rest lone n k more inside spelled =
     let front = lone-take b rest n more inside in
     lone-spelled m b front.0 k lone front.2 (subst (λ text. IsSpelled m text k) front.1 spelled)
 
--- a form by its kind and its length
-abbrev pub form_of : TokenKind → ℕ → Form
-form_of k n = record { kind = k; length = n }
+-- a match by its kind and its length
+abbrev pub match_of : TokenKind → ℕ → Match
+match_of k n = record { kind = k; length = n }
 
-form-eta : (f : Form) (k : TokenKind) (n : ℕ) → f.kind ≡ k → f.length ≡ n → f ≡ form_of k n
-form-eta f k n is_kind is_length =
-    let one : f ≡ form_of k f.length = ap (λ j. form_of j f.length) is_kind in
-    one ∙ ap (form_of k) is_length
+match-eta : (f : Match) (k : TokenKind) (n : ℕ) → f.kind ≡ k → f.length ≡ n → f ≡ match_of k n
+match-eta f k n is_kind is_length =
+    let one : f ≡ match_of k f.length = ap (λ j. match_of j f.length) is_kind in
+    one ∙ ap (match_of k) is_length
 
--- the form that is found is that of the text
-pub form-found : (m : Bool) (text rest : List ℕ) (k : TokenKind) → 0 < length text → IsSpelled m text k → IsLast m text rest →
-    form_at m (text ++ rest) ≡ form_of k (length text)
-form-found m text rest k some spelled last =
+-- the match that is found is that of the text
+pub match-found : (m : Bool) (text rest : List ℕ) (k : TokenKind) → 0 < length text → IsSpelled m text k → IsLast m text rest →
+    match_at m (text ++ rest) ≡ match_of k (length text)
+match-found m text rest k some spelled last =
     let bytes = text ++ rest in
-    let f = form_at m bytes in
+    let f = match_at m bytes in
     let whole = length-append text rest in
     let front : take (length text) bytes ≡ text = take-append_seam text rest in
-    let long : length text ≤ f.length = form_at-longest m (length text) bytes k (omega (arith, whole)) (subst (λ t. IsSpelled m t k) (sym front) spelled) in
-    let is : IsSpelled m (take f.length bytes) f.kind = form_at-spelled m bytes (omega arith) in
+    let long : length text ≤ f.length = match_at-longest m (length text) bytes k (omega (arith, whole)) (subst (λ t. IsSpelled m t k) (sym front) spelled) in
+    let is : IsSpelled m (take f.length bytes) f.kind = match_at-spelled m bytes (omega arith) in
     let size : f.length ≡ length text =
-    ⊎_elim (λ less. absurd (last f.length f.kind less (form-within m bytes) is)) (λ more. omega (arith, long)) (order (length text) f.length) in
+    ⊎_elim (λ less. absurd (last f.length f.kind less (match-within m bytes) is)) (λ more. omega (arith, long)) (order (length text) f.length) in
     let kinds : f.kind ≡ k =
     one_kind m text f.kind k (subst (λ t. IsSpelled m t f.kind) (ap (λ n. take n bytes) size ∙ front) is) spelled in
-    form-eta f k (length text) kinds size
+    match-eta f k (length text) kinds size
 
 -- a number that isn't 0
 not_zero : (n : ℕ) → 0 < n → (n == 0) ≡ false
@@ -105,11 +105,11 @@ not_zero n some = grind (arith, nat_tests)
 abbrev pub read_of : TokenKind → List ℕ → Read
 read_of k text = record { kind = k; length = length text; change = Stay; before = before_behind k text }
 
-form_found-token : (f : Form) (bytes : List ℕ) (k : TokenKind) (text : List ℕ) → f ≡ form_of k (length text) → 0 < length text → take (length text) bytes ≡ text →
-    form_found f bytes ≡ found.Token (read_of k text)
-unfolding form_found
-form_found-token f bytes k text is some front =
-    ap (λ f. form_found f bytes) is
+match_found-token : (f : Match) (bytes : List ℕ) (k : TokenKind) (text : List ℕ) → f ≡ match_of k (length text) → 0 < length text → take (length text) bytes ≡ text →
+    match_found f bytes ≡ found.Token (read_of k text)
+unfolding match_found
+match_found-token f bytes k text is some front =
+    ap (λ f. match_found f bytes) is
     ∙ ap (λ b. cond b found.Nothing (found.Token (record { kind = k; length = length text; change = Stay; before = before_behind k (take (length text) bytes) }))) (not_zero (length text) some)
     ∙ ap (λ t. found.Token (record { kind = k; length = length text; change = Stay; before = before_behind k t })) front
 
@@ -120,9 +120,9 @@ pub token-found : (l : Level) (b : Before) (text rest : List ℕ) (k : TokenKind
 unfolding code_found token_found
 token-found l b text rest k some spelled last separator mark =
     let bytes = text ++ rest in
-    ap (λ n. cond (nat_lt 0 n) (found.Gap n (slice_index bytes 0 == 10)) (token_found (mark_at l (slice_index bytes 0)) (form_at (may_be_signed b) bytes) bytes)) separator
-    ∙ ap (λ mark. token_found mark (form_at (may_be_signed b) bytes) bytes) mark
-    ∙ form_found-token (form_at (may_be_signed b) bytes) bytes k text (form-found (may_be_signed b) text rest k some spelled last) some (take-append_seam text rest)
+    ap (λ n. cond (nat_lt 0 n) (found.Gap n (slice_index bytes 0 == 10)) (token_found (mark_at l (slice_index bytes 0)) (match_at (may_be_signed b) bytes) bytes)) separator
+    ∙ ap (λ mark. token_found mark (match_at (may_be_signed b) bytes) bytes) mark
+    ∙ match_found-token (match_at (may_be_signed b) bytes) bytes k text (match-found (may_be_signed b) text rest k some spelled last) some (take-append_seam text rest)
 
 -- no blank and no comment begins so
 pub separator-none : (bytes : List ℕ) → is_blank (slice_index bytes 0) ≡ false → (slice_index bytes 0 == 35) ≡ false → separator_length bytes ≡ 0

@@ -6,7 +6,7 @@ use Rattle.ink_tokens.specs.declared.reading.Before.TheVariants as before
 use Rattle.ink_tokens.specs.Found.{may_be_signed}
 use Rattle.ink_tokens.specs.Lexes.{Lexes, AreTokens}
 use Rattle.ink_tokens.specs.Scan.{begins_line}
-use Rattle.ink_shapes.specs.Shaped.{shaped}
+use Rattle.ink_shapes.specs.Terminals.{terminal_of}
 use Rattle.ink_grammar.specs.declared.token.Shape.{Shape}
 use Rattle.ink_grammar.specs.declared.token.Terminal.{Terminal}
 use Rattle.ink_print.specs.declared.class.Class.{Class}
@@ -50,7 +50,7 @@ pub record Lexed (source print : List ℕ) (line : Bool) (ps : List Piece) (ts :
   pub tokens : List scanned.Token
   pub comes : AreTokens print (ts ++ tokens)
   pub end : Bool
-  pub spelled : Spells source print line ps (map (shaped print) tokens) end
+  pub spelled : Spells source print line ps (map (terminal_of print) tokens) end
 
 -- a token that ends an operand or doesn't begins no line
 pub behind-line : (e : Bool) → begins_line (cond e before.Operand before.Other) ≡ false

@@ -11,6 +11,7 @@ use Rattle.ink_tokens.specs.Gap.{is_blank}
 use Rattle.ink_tokens.specs.Words.{is_single, singles, is_pair, pairs}
 use Rattle.ink_tokens.specs.Spelling.{IsSymbol}
 use Rattle.ink_tokens.specs.declared.bytes.Class.TheVariants.{Word}
+use Rattle.ink_tokens.proofs.Choices.{both-one, both-other}
 
 -- what holds of each of some bytes
 abbrev pub Each : (ℕ → Type 0) → List ℕ → Type 0
@@ -31,16 +32,6 @@ or-cases false b is = inr is
 pub or-one : (a b : Bool) → a ≡ true → (a || b) ≡ true
 or-one true b is = refl
 or-one false b is = cc
-
--- two tests passed
-pub both-one : (a b : Bool) → (a && b) ≡ true → a ≡ true
-both-one true b all = refl
-both-one false b all = all
-
--- and so did the other
-pub both-other : (a b : Bool) → (a && b) ≡ true → b ≡ true
-both-other true b all = all
-both-other false b all = cc
 
 -- it holds of a byte that is one of them
 pub each-any : (P : ℕ → Type 0) (xs : List ℕ) (byte : ℕ) → Each P xs → list_any (λ x. x == byte) xs ≡ true → P byte

@@ -8,7 +8,7 @@ use Rattle.ink_tokens.specs.Found.{may_be_signed, before_behind, ends_operand}
 use Rattle.ink_tokens.specs.Lexes.{begins, end_outcome, AreTokens}
 use Rattle.ink_tokens.specs.Scan.{begins_line, behind_line}
 use Rattle.ink_tokens.proofs.LexesLemmas.{step_at-end}
-use Rattle.ink_shapes.specs.Shaped.{shape_by, shaped}
+use Rattle.ink_shapes.specs.Terminals.{shape_by, terminal_of}
 use Rattle.ink_grammar.specs.declared.token.Shape.{Shape}
 use Rattle.ink_grammar.specs.declared.token.Shape.TheVariants as shape
 use Rattle.ink_grammar.specs.declared.token.Terminal.{Terminal}
@@ -238,7 +238,7 @@ pieces-lexed source print _ free line c _ depth ts (closes_value {ls = ls} {ps =
 
 -- a print of pieces has their tokens
 pub pieces-lex : (source : List ℕ) (ps : List Piece) → is_begun ps ≡ true → Follow source (Outside ∷ []) true ps →
-    (tokens : List scanned.Token) × AreTokens (laid source ps 0 class.Line) tokens × (end : Bool) × Spells source (laid source ps 0 class.Line) false ps (map (shaped (laid source ps 0 class.Line)) tokens) end
+    (tokens : List scanned.Token) × AreTokens (laid source ps 0 class.Line) tokens × (end : Bool) × Spells source (laid source ps 0 class.Line) false ps (map (terminal_of (laid source ps 0 class.Line)) tokens) end
 unfolding begins_line may_be_signed
 pieces-lex source ps begun follow =
     let print = laid source ps 0 class.Line in

@@ -1,5 +1,5 @@
 pub mod Leads
-pub mod Forms
+pub mod Matches
 pub mod Found
 pub mod Steps
 pub mod Gaps

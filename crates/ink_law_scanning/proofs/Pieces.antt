@@ -12,7 +12,7 @@ use Rattle.ink_tokens.specs.Gap.{is_blank}
 use Rattle.ink_tokens.specs.Lexes.{Lexes}
 use Rattle.ink_tokens.specs.Scan.{begins_line}
 use Rattle.ink_tokens.specs.Spelling.{IsSpelled}
-use Rattle.ink_shapes.specs.Shaped.{shape_by}
+use Rattle.ink_shapes.specs.Terminals.{shape_by}
 use Rattle.ink_grammar.specs.declared.token.Keyword.{Keyword}
 use Rattle.ink_grammar.specs.declared.token.Terminal.{Terminal}
 use Rattle.ink_print.specs.declared.class.Class.{Class}

@@ -9,7 +9,7 @@ use Rattle.ink_tokens.specs.Spelling.{IsSpelled, spelled_name, spelled_symbol}
 use Rattle.ink_tokens.specs.Words.{is_single, is_pair, word_kind, is_keyword, is_value_word, ends_bracket}
 use Rattle.ink_shapes.specs.Keywords.{keyword_of}
 use Rattle.ink_shapes.specs.Marks.{mark_of, is_written}
-use Rattle.ink_shapes.specs.Shaped.{shape_by, mark_shape, keyword_shape}
+use Rattle.ink_shapes.specs.Terminals.{shape_by, mark_shape, keyword_shape}
 use Rattle.ink_print.specs.declared.step.Sign.{Sign}
 use Rattle.ink_print.specs.declared.step.Sign.TheVariants as sign
 use Rattle.ink_print.specs.Layout.{sign_text, class_of_sign}

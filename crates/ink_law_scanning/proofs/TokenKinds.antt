@@ -11,7 +11,7 @@ use Rattle.ink_tokens.specs.Words.{word_kind, is_keyword, is_value_word, ends_br
 use Rattle.ink_tokens.specs.Spelling.{IsSymbol, IsSpelled, spelled_name, spelled_const, spelled_field, spelled_integer, spelled_symbol}
 use Rattle.ink_shapes.specs.Keywords.{text, keyword_of, keywords}
 use Rattle.ink_shapes.specs.Marks.{mark_of, is_written}
-use Rattle.ink_shapes.specs.Shaped.{integer_shape, keyword_shape, mark_shape, shape_by}
+use Rattle.ink_shapes.specs.Terminals.{integer_shape, keyword_shape, mark_shape, shape_by}
 use Rattle.ink_grammar.specs.declared.token.Keyword.{Keyword}
 use Rattle.ink_grammar.specs.declared.token.Keyword.TheVariants as keyword
 use Rattle.ink_grammar.specs.declared.token.Mark.{Mark}
@@ -22,7 +22,7 @@ use Rattle.ink_print.specs.declared.class.Class.TheVariants as class
 use Rattle.ink_print.specs.Layout.{class_of_shape}
 use Rattle.ink_law_neighbours.specs.Follow.{is_value}
 use Rattle.ink_law_scanning.proofs.Leads.{each-symbol, same-text, LeadFacts, name-lead, capital-lead, digit-lead}
-use Rattle.ink_law_scanning.proofs.Forms.{first_digit}
+use Rattle.ink_law_scanning.proofs.Matches.{first_digit}
 
 -- what is spelled has a byte
 pub spelled-some : (m : Bool) (t : List ℕ) (k : TokenKind) → IsSpelled m t k → 0 < length t

@@ -2,7 +2,7 @@
 ghost use Rattle.std.specs.Prelude.{◌≡◌, ℕ, Bool, true, false, List, [], ◌∷◌, map};
 ghost use Rattle.ink_base.specs.declared.token.Token.{Token};
 ghost use Rattle.ink_tokens.specs.Lexes.{AreTokens};
-ghost use Rattle.ink_shapes.specs.Shaped.{shaped};
+ghost use Rattle.ink_shapes.specs.Terminals.{terminal_of};
 ghost use Rattle.ink_print.specs.declared.class.Class.TheVariants.{Line};
 ghost use Rattle.ink_print.specs.declared.step.Piece.{Piece};
 ghost use Rattle.ink_print.specs.Layout.{laid};
@@ -16,5 +16,5 @@ ghost use Rattle.ink_law_neighbours.specs.Follow.{Follow, is_begun};
 pub fn pieces_lex()
     ensures { (source : List ℕ) (ps : List Piece) → is_begun ps ≡ true → Follow source (Outside ∷ []) true ps →
         let print = laid source ps 0 Line in
-        (tokens : List Token) × AreTokens print tokens × (end : Bool) × Spells source print false ps (map (shaped print) tokens) end }
+        (tokens : List Token) × AreTokens print tokens × (end : Bool) × Spells source print false ps (map (terminal_of print) tokens) end }
 {}

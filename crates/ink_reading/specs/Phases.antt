@@ -14,7 +14,7 @@ use Rattle.ink_grammar.specs.Language.{Parses}
 use Rattle.ink_grammar.specs.Faults.{IsFault}
 use Rattle.ink_grammar.specs.Views.{tree}
 use Rattle.ink_grammar.specs.Tree.{Tree}
-use Rattle.ink_shapes.specs.Shaped.{shaped}
+use Rattle.ink_shapes.specs.Terminals.{terminal_of}
 use Rattle.ink_heights.specs.Heights.{first_too_high}
 
 -- a rule that is broken at a byte, as it is told
@@ -23,7 +23,7 @@ broken source rule byte = record { rule = rule; place = place_at source byte; de
 
 -- the tokens as the grammar sees them
 abbrev pub seen_by_grammar : List ℕ → List Token → List seen.Terminal
-seen_by_grammar source tokens = map (shaped source) tokens
+seen_by_grammar source tokens = map (terminal_of source) tokens
 
 -- where a token begins, and the end of the source where there is none
 unfoldable pub start_or_end : List ℕ → Option Token → ℕ

@@ -5,7 +5,7 @@ ghost use Rattle.ink_base.specs.declared.limits.Limit.TheVariants.{Source, Heigh
 ghost use Rattle.ink_base.specs.declared.refusal.Rule.TheVariants.{SourceTooLong, NotUtf8};
 ghost use Rattle.ink_base.specs.declared.refusal.JudgeFault.TheVariants.{Refused};
 ghost use Rattle.ink_text.specs.Utf8.{Utf8, StopsAt};
-ghost use Rattle.ink_tokens.specs.Lexes.{IsInside};
+ghost use Rattle.ink_tokens.specs.Lexes.{IsInside, HasPlaces};
 ghost use Rattle.ink_text.specs.Place.{place_at};
 ghost use Rattle.ink_grammar.specs.Views.{tree};
 ghost use Rattle.ink_reading.specs.Phases.{broken, start_or_end, byte_of, JudgesGrammar, JudgesHeight};
@@ -33,7 +33,7 @@ fn broken(source: &[u8], rule: Rule, byte: u32) -> JudgeFault
 /// Refuses a source with more bytes than the limit, at the first byte that is over it.
 pub(crate) fn judge_length(source: &[u8], limits: &Limits) -> Result<(), JudgeFault>
     ensures short { OnOk result (length source.now ≤ limit_of Source limits.now) }
-    ensures small { OnOk result (length source.now + 1 < 2 ^ 32) }
+    ensures small { OnOk result (HasPlaces source.now) }
     ensures long { IfErr result (λ fault. (limit_of Source limits.now < length source.now) × (fault ≡ Refused (broken source.now SourceTooLong (limit_of Source limits.now)))) }
 {
     let most = limits.get(Limit::Source);
@@ -45,7 +45,7 @@ pub(crate) fn judge_length(source: &[u8], limits: &Limits) -> Result<(), JudgeFa
 
 /// Refuses a source that isn't UTF-8, where it stops being so.
 pub(crate) fn judge_text(source: &[u8]) -> Result<(), JudgeFault>
-    requires { length source.now + 1 < 2 ^ 32 }
+    requires { HasPlaces source.now }
     ensures text { OnOk result (Utf8 source.now) }
     ensures other { IfErr result (λ fault. (byte : ℕ) × StopsAt source.now byte × (fault ≡ Refused (broken source.now NotUtf8 byte))) }
 {
@@ -58,7 +58,7 @@ pub(crate) fn judge_text(source: &[u8]) -> Result<(), JudgeFault>
 /// The byte of the token of this number, or the end of the source.
 #[tactic(auto, unfolding(crate::specs::Phases::start_or_end))]
 fn byte_of(source: &[u8], tokens: &[Token], number: usize) -> u32
-    requires small { length source.now + 1 < 2 ^ 32 }
+    requires small { HasPlaces source.now }
     requires inside { All (IsInside source.now) tokens.now }
     ensures byte { result ≡ byte_of source.now tokens.now number }
     ensures inside { result ≤ length source.now }
@@ -75,7 +75,7 @@ pub(crate) fn judge_grammar(
     source: &[u8],
     tokens: &[Token],
 ) -> Result<Module, JudgeFault>
-    requires small { length source.now + 1 < 2 ^ 32 }
+    requires small { HasPlaces source.now }
     requires inside { All (IsInside source.now) tokens.now }
     ensures { JudgesGrammar source.now tokens.now result }
 {
@@ -92,7 +92,7 @@ pub(crate) fn judge_grammar(
 
 /// The place of a byte. One behind the end, which no node has, has the line and the column of the end.
 fn place_in(source: &[u8], byte: u32) -> Place
-    requires { length source.now + 1 < 2 ^ 32 }
+    requires { HasPlaces source.now }
     ensures { result ≡ place_at source.now byte }
 {
     let end = source.len() as u32;
@@ -107,7 +107,7 @@ pub(crate) fn judge_height(
     parsed: &Module,
     limits: &Limits,
 ) -> Result<(), JudgeFault>
-    requires { length source.now + 1 < 2 ^ 32 }
+    requires { HasPlaces source.now }
     ensures { JudgesHeight source.now (limit_of Height limits.now) (tree parsed.now) result }
 {
     match first_too_high(alloc, parsed, limits.get(Limit::Height))? {

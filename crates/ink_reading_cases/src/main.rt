@@ -13,7 +13,7 @@ mod trees;
 use crate::answer::{Question, answer};
 use crate::sources::{nested_source, source_of};
 use ink_round::print_reads_back;
-use ink_tokens::longest_form;
+use ink_tokens::longest_match;
 use std::rt::Files;
 use std::{fs, io};
 
@@ -82,7 +82,7 @@ fn tell_blocks<R: Files + Print + AllocGlobal>(
 
 fn main(rt: HostRuntime) -> io::Result<()> {
     // Laws, which do nothing when they run.
-    longest_form();
+    longest_match();
     print_reads_back();
     for (file, question) in LINES {
         tell_lines(&rt, file, question)?;

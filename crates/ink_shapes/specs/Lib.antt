@@ -1,3 +1,3 @@
 pub mod Keywords
 pub mod Marks
-pub mod Shaped
+pub mod Terminals

@@ -6,6 +6,6 @@
 
 mod keyword;
 mod mark;
-mod shaped;
+mod terminals;
 
-pub use shaped::{shape_of, shapes};
+pub use terminals::{shape_of, shapes};

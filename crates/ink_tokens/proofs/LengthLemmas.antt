@@ -1,14 +1,15 @@
--- How long the form at the front is.
+-- How long the match at the front is.
 use Rattle.std.proofs.Common.{◌≡◌, ℕ, zero, suc, ◌+◌, ◌<◌, ◌≤◌, Bool, true, false, cond, ◌&&◌, ◌==◌, List, [], ◌∷◌, length, take, drop, refl, arith, eqb-true, leb-true, nat_le, nat_lt}
 use Rattle.std.specs.Prelude.{slice_index}
 use Rattle.std.proofs.lemmas.List.Sums.{prefix_len-le-length}
 use Rattle.std.proofs.lemmas.List.{length-drop}
 use Rattle.ink_tokens.specs.declared.bytes.Class.TheVariants.{Word, Decimal, Hexadecimal}
 use Rattle.ink_tokens.specs.Bytes.{is_of, begins_name}
-use Rattle.ink_tokens.specs.declared.reading.Form.{Form}
-use Rattle.ink_tokens.specs.Found.{longer, name_form, form_at}
+use Rattle.ink_tokens.specs.declared.reading.Match.{Match}
+use Rattle.ink_tokens.specs.Found.{longer, name_match, match_at}
 use Rattle.ink_tokens.specs.Words.{name_length, const_length, field_length, symbol_length, is_pair, is_single, word_run}
 use Rattle.ink_tokens.specs.Integer.{decimal_length, begins_hexadecimal, hexadecimal_length, hexadecimal_run, unsigned_length, begins_signed, integer_length}
+use Rattle.ink_tokens.proofs.Choices.{both-one, both-other}
 
 -- what a test chooses is within what either choice is
 chosen-within : (b : Bool) (one other n : ℕ) → (b ≡ true → one ≤ n) → other ≤ n → cond b one other ≤ n
@@ -38,14 +39,6 @@ name-within bytes =
 const-within : (bytes : List ℕ) → const_length bytes ≤ length bytes
 unfolding const_length
 const-within bytes = chosen-within _ _ 0 (length bytes) (λ is. prefix_len-le-length (is_of Word) bytes) (omega arith)
-
-both-one : (a b : Bool) → (a && b) ≡ true → a ≡ true
-both-one true b all = refl
-both-one false b all = all
-
-both-other : (a b : Bool) → (a && b) ≡ true → b ≡ true
-both-other true b all = all
-both-other false b all = cc
 
 -- behind its first bytes a run is within
 behind-within : (n run : ℕ) (bytes : List ℕ) → n ≤ length bytes → run ≤ length (drop n bytes) → n + run ≤ length bytes
@@ -100,20 +93,20 @@ symbol-within bytes =
     (λ is. leb-true 2 (length bytes) (both-one (nat_le 2 (length bytes)) _ is))
     (chosen-within (is_single (slice_index bytes 0)) 1 0 (length bytes) (λ single. single-there bytes single) (omega arith))
 
--- either of two forms
-either-within : (b : Bool) (one other : Form) (n : ℕ) → one.length ≤ n → other.length ≤ n → (cond b other one).length ≤ n
+-- either of two matches
+either-within : (b : Bool) (one other : Match) (n : ℕ) → one.length ≤ n → other.length ≤ n → (cond b other one).length ≤ n
 either-within true one other n first second = second
 either-within false one other n first second = first
 
--- the longer of two forms is one of them
-longer-within : (one other : Form) (n : ℕ) → one.length ≤ n → other.length ≤ n → (longer one other).length ≤ n
+-- the longer of two matches is one of them
+longer-within : (one other : Match) (n : ℕ) → one.length ≤ n → other.length ≤ n → (longer one other).length ≤ n
 unfolding longer
 longer-within one other n first second = either-within (nat_lt one.length other.length) one other n first second
 
--- no form takes more than there is
-pub form-within : (flag : Bool) (bytes : List ℕ) → (form_at flag bytes).length ≤ length bytes
-unfolding form_at name_form
-form-within flag bytes =
+-- no match takes more than there is
+pub match-within : (flag : Bool) (bytes : List ℕ) → (match_at flag bytes).length ≤ length bytes
+unfolding match_at name_match
+match-within flag bytes =
     longer-within _ _ (length bytes)
     (longer-within _ _ (length bytes) (name-within bytes) (longer-within _ _ (length bytes) (const-within bytes) (field-within bytes)))
     (longer-within _ _ (length bytes) (integer-within flag bytes) (symbol-within bytes))

@@ -1,5 +1,6 @@
 pub mod AnswerLemmas
-pub mod FormLemmas
+pub mod Choices
+pub mod MatchLemmas
 pub mod LengthLemmas
 pub mod LexesLemmas
 pub mod NumberLemmas

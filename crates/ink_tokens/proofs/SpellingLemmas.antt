@@ -1,4 +1,4 @@
--- No text at the front that is spelled as a form is longer than the form is there.
+-- No text at the front that is spelled as a token of a kind is longer than the match of that kind.
 use Rattle.std.proofs.Common.{◌≡◌, ℕ, zero, suc, ◌+◌, ◌-◌, ◌<◌, ◌≤◌, Bool, true, false, cond, ◌&&◌, ◌||◌, ◌==◌, List, [], ◌∷◌, length, take, drop, refl, arith, sym, ap, ◌∙◌, subst, ⊎_elim, inl, inr, eq-eqb, eqb-true, le-leb, nat_le, get_or-take, length-take-le}
 use Rattle.std.proofs.lemmas.List.{take-take}
 use Rattle.std.proofs.str.Laws.{order}
@@ -10,11 +10,12 @@ use Rattle.ink_tokens.specs.declared.bytes.Class.TheVariants.{Word, Decimal, Hex
 use Rattle.ink_tokens.specs.Bytes.{is_of, begins_name}
 use Rattle.ink_base.specs.declared.token.TokenKind.{TokenKind}
 use Rattle.ink_base.specs.declared.token.TokenKind.TheVariants as kind
-use Rattle.ink_tokens.specs.declared.reading.Form.{Form}
-use Rattle.ink_tokens.specs.Found.{longer, name_form, form_at}
+use Rattle.ink_tokens.specs.declared.reading.Match.{Match}
+use Rattle.ink_tokens.specs.Found.{longer, name_match, match_at}
 use Rattle.ink_tokens.specs.Words.{name_length, const_length, field_length, symbol_length, is_pair, is_single, word_run}
 use Rattle.ink_tokens.specs.Integer.{decimal_length, begins_hexadecimal, hexadecimal_length, hexadecimal_run, unsigned_length, begins_signed, integer_length}
 use Rattle.ink_tokens.specs.Spelling.{IsName, IsConst, IsField, IsDecimal, IsHexadecimal, IsUnsigned, IsNameTail, IsSigned, IsInteger, IsSymbol, IsSpelled, spelled_name, spelled_const, spelled_field, spelled_integer, spelled_symbol}
+use Rattle.ink_tokens.proofs.Choices.{both}
 
 -- one byte more of a run
 run-more : (first : Bool) (rest : Bool) (n run : ℕ) → (first && rest) ≡ true → (rest ≡ true → n ≤ run) → suc n ≤ cond first (1 + run) 0
@@ -59,11 +60,6 @@ pub decimal-longest : (n : ℕ) (bytes : List ℕ) → n ≤ length bytes → Is
 unfolding decimal_length
 decimal-longest n bytes inside spelled =
     run-chosen is_ascii_digit (is_of Decimal) n bytes inside spelled.0 spelled.1
-
--- two tests that pass
-pub both : (a b : Bool) → a ≡ true → b ≡ true → (a && b) ≡ true
-both true b is_a is_b = is_b
-both false b is_a is_b = is_a
 
 -- what is chosen by a test that passes
 chosen-more : (b : Bool) (n more run : ℕ) → b ≡ true → n ≤ run → more + n ≤ cond b (more + run) 0
@@ -263,71 +259,71 @@ name-longest (suc n) bytes inside spelled =
     chosen (begins_name (slice_index bytes 0)) (suc n) _
     (sym (ap begins_name (first_byte (suc n) bytes (omega arith))) ∙ spelled.0) (name-tail n bytes inside spelled.1)
 
--- the longer of two forms is no shorter than either
-longer-one : (one other : Form) → one.length ≤ (longer one other).length
+-- the longer of two matches is no shorter than either
+longer-one : (one other : Match) → one.length ≤ (longer one other).length
 unfolding longer
 longer-one one other = grind (arith, nat_tests)
 
 -- nor than the other
-longer-other : (one other : Form) → other.length ≤ (longer one other).length
+longer-other : (one other : Match) → other.length ≤ (longer one other).length
 unfolding longer
 longer-other one other = grind (arith, nat_tests)
 
--- how far a word goes as a form
-name_form-length : (bytes : List ℕ) → (name_form bytes).length ≡ name_length bytes
-unfolding name_form
-name_form-length bytes = refl
+-- how far a word goes as a match
+name_match-length : (bytes : List ℕ) → (name_match bytes).length ≡ name_length bytes
+unfolding name_match
+name_match-length bytes = refl
 
--- the forms from which the longest is chosen
-abbrev pub capital_form : List ℕ → Form
-capital_form bytes = record { kind = kind.Const; length = const_length bytes }
+-- the matches from which the longest is chosen
+abbrev pub capital_match : List ℕ → Match
+capital_match bytes = record { kind = kind.Const; length = const_length bytes }
 
-abbrev pub field_form : List ℕ → Form
-field_form bytes = record { kind = kind.Field; length = field_length bytes }
+abbrev pub field_match : List ℕ → Match
+field_match bytes = record { kind = kind.Field; length = field_length bytes }
 
-abbrev pub integer_form : Bool → List ℕ → Form
-integer_form may_be_signed bytes = record { kind = kind.Int; length = integer_length may_be_signed bytes }
+abbrev pub integer_match : Bool → List ℕ → Match
+integer_match may_be_signed bytes = record { kind = kind.Int; length = integer_length may_be_signed bytes }
 
-abbrev pub symbol_form : List ℕ → Form
-symbol_form bytes = record { kind = kind.Symbol; length = symbol_length bytes }
+abbrev pub symbol_match : List ℕ → Match
+symbol_match bytes = record { kind = kind.Symbol; length = symbol_length bytes }
 
-abbrev pub word_form : List ℕ → Form
-word_form bytes = longer (name_form bytes) (longer (capital_form bytes) (field_form bytes))
+abbrev pub word_match : List ℕ → Match
+word_match bytes = longer (name_match bytes) (longer (capital_match bytes) (field_match bytes))
 
-abbrev pub other_form : Bool → List ℕ → Form
-other_form may_be_signed bytes = longer (integer_form may_be_signed bytes) (symbol_form bytes)
+abbrev pub other_match : Bool → List ℕ → Match
+other_match may_be_signed bytes = longer (integer_match may_be_signed bytes) (symbol_match bytes)
 
 -- none of them is longer than the one that is chosen
-word-one : (bytes : List ℕ) → (name_form bytes).length ≤ (word_form bytes).length
-word-one bytes = longer-one (name_form bytes) (longer (capital_form bytes) (field_form bytes))
+word-one : (bytes : List ℕ) → (name_match bytes).length ≤ (word_match bytes).length
+word-one bytes = longer-one (name_match bytes) (longer (capital_match bytes) (field_match bytes))
 
-word-other : (bytes : List ℕ) → (longer (capital_form bytes) (field_form bytes)).length ≤ (word_form bytes).length
-word-other bytes = longer-other (name_form bytes) (longer (capital_form bytes) (field_form bytes))
+word-other : (bytes : List ℕ) → (longer (capital_match bytes) (field_match bytes)).length ≤ (word_match bytes).length
+word-other bytes = longer-other (name_match bytes) (longer (capital_match bytes) (field_match bytes))
 
 all-one : (may_be_signed : Bool) (bytes : List ℕ) →
-    (word_form bytes).length ≤ (longer (word_form bytes) (other_form may_be_signed bytes)).length
-all-one may_be_signed bytes = longer-one (word_form bytes) (other_form may_be_signed bytes)
+    (word_match bytes).length ≤ (longer (word_match bytes) (other_match may_be_signed bytes)).length
+all-one may_be_signed bytes = longer-one (word_match bytes) (other_match may_be_signed bytes)
 
 all-other : (may_be_signed : Bool) (bytes : List ℕ) →
-    (other_form may_be_signed bytes).length ≤ (longer (word_form bytes) (other_form may_be_signed bytes)).length
-all-other may_be_signed bytes = longer-other (word_form bytes) (other_form may_be_signed bytes)
+    (other_match may_be_signed bytes).length ≤ (longer (word_match bytes) (other_match may_be_signed bytes)).length
+all-other may_be_signed bytes = longer-other (word_match bytes) (other_match may_be_signed bytes)
 
--- no text at the front that is spelled as a token is longer than the form that is found there
-pub form_at-longest : (may_be_signed : Bool) (n : ℕ) (bytes : List ℕ) (spelled_kind : TokenKind) → n ≤ length bytes →
-    IsSpelled may_be_signed (take n bytes) spelled_kind → n ≤ (form_at may_be_signed bytes).length
-unfolding form_at
-form_at-longest may_be_signed n bytes _ inside (spelled_name spelled) =
+-- no text at the front that is spelled as a token is longer than the match that is found there
+pub match_at-longest : (may_be_signed : Bool) (n : ℕ) (bytes : List ℕ) (spelled_kind : TokenKind) → n ≤ length bytes →
+    IsSpelled may_be_signed (take n bytes) spelled_kind → n ≤ (match_at may_be_signed bytes).length
+unfolding match_at
+match_at-longest may_be_signed n bytes _ inside (spelled_name spelled) =
     let name = name-longest n bytes inside spelled in
-    omega (arith, name, name_form-length bytes, word-one bytes, all-one may_be_signed bytes)
-form_at-longest may_be_signed n bytes _ inside (spelled_const spelled) =
+    omega (arith, name, name_match-length bytes, word-one bytes, all-one may_be_signed bytes)
+match_at-longest may_be_signed n bytes _ inside (spelled_const spelled) =
     let capital = const-longest n bytes inside spelled in
-    omega (arith, capital, longer-one (capital_form bytes) (field_form bytes), word-other bytes, all-one may_be_signed bytes)
-form_at-longest may_be_signed n bytes _ inside (spelled_field spelled) =
+    omega (arith, capital, longer-one (capital_match bytes) (field_match bytes), word-other bytes, all-one may_be_signed bytes)
+match_at-longest may_be_signed n bytes _ inside (spelled_field spelled) =
     let field = field-longest n bytes inside spelled in
-    omega (arith, field, longer-other (capital_form bytes) (field_form bytes), word-other bytes, all-one may_be_signed bytes)
-form_at-longest may_be_signed n bytes _ inside (spelled_integer spelled) =
+    omega (arith, field, longer-other (capital_match bytes) (field_match bytes), word-other bytes, all-one may_be_signed bytes)
+match_at-longest may_be_signed n bytes _ inside (spelled_integer spelled) =
     let integer = integer-longest may_be_signed n bytes inside spelled in
-    omega (arith, integer, longer-one (integer_form may_be_signed bytes) (symbol_form bytes), all-other may_be_signed bytes)
-form_at-longest may_be_signed n bytes _ inside (spelled_symbol spelled) =
+    omega (arith, integer, longer-one (integer_match may_be_signed bytes) (symbol_match bytes), all-other may_be_signed bytes)
+match_at-longest may_be_signed n bytes _ inside (spelled_symbol spelled) =
     let symbol = symbol-longest n bytes inside spelled in
-    omega (arith, symbol, longer-other (integer_form may_be_signed bytes) (symbol_form bytes), all-other may_be_signed bytes)
+    omega (arith, symbol, longer-other (integer_match may_be_signed bytes) (symbol_match bytes), all-other may_be_signed bytes)

@@ -7,7 +7,7 @@ use Rattle.ink_tokens.specs.declared.reading.Level.TheVariants.{Outside, Text, E
 use Rattle.ink_tokens.specs.declared.reading.Before.{Before}
 use Rattle.ink_tokens.specs.declared.reading.Before.TheVariants.{Start, LineFeed, Operand, Other}
 use Rattle.ink_tokens.specs.declared.reading.Change.TheVariants.{Stay, Enter, Leave}
-use Rattle.ink_tokens.specs.declared.reading.Form.{Form}
+use Rattle.ink_tokens.specs.declared.reading.Match.{Match}
 use Rattle.ink_tokens.specs.declared.reading.Read.{Read}
 use Rattle.ink_tokens.specs.declared.reading.Found.{Found}
 use Rattle.ink_tokens.specs.declared.reading.Found.TheVariants.{Gap, Token, Nothing}
@@ -17,19 +17,19 @@ use Rattle.ink_tokens.specs.Integer.{integer_length}
 use Rattle.ink_tokens.specs.Part.{part_length, begins_opening}
 use Rattle.ink_tokens.specs.Words.{name_length, const_length, field_length, symbol_length, word_kind, ends_bracket, is_value_word}
 
--- the longer of two forms
-unfoldable pub longer : Form → Form → Form
+-- the longer of two matches
+unfoldable pub longer : Match → Match → Match
 longer one other = if nat_lt one.length other.length then other else one
 
 -- a word that begins as a name does
-unfoldable pub name_form : List ℕ → Form
-name_form bytes = record { kind = word_kind (take (name_length bytes) bytes); length = name_length bytes }
+unfoldable pub name_match : List ℕ → Match
+name_match bytes = record { kind = word_kind (take (name_length bytes) bytes); length = name_length bytes }
 
--- the longest form at the front, quotes aside
-unfoldable pub form_at : Bool → List ℕ → Form
-form_at may_be_signed bytes =
+-- the longest match at the front, quotes aside
+unfoldable pub match_at : Bool → List ℕ → Match
+match_at may_be_signed bytes =
     longer
-    (longer (name_form bytes) (longer (record { kind = kind.Const; length = const_length bytes }) (record { kind = kind.Field; length = field_length bytes })))
+    (longer (name_match bytes) (longer (record { kind = kind.Const; length = const_length bytes }) (record { kind = kind.Field; length = field_length bytes })))
     (longer (record { kind = kind.Int; length = integer_length may_be_signed bytes }) (record { kind = kind.Symbol; length = symbol_length bytes }))
 
 -- whether a token ends what a - behind it subtracts from, quotes aside
@@ -73,7 +73,7 @@ brace_at Braces first = if first == 123 then Some opened_brace else (if first ==
 abbrev pub opening_quote : ℕ → Read
 opening_quote quote = record { kind = kind.Quote; length = 1; change = Enter (Text quote); before = Other }
 
--- the quote or the brace that begins with a byte: no other form begins so
+-- the quote or the brace that begins with a byte: no other token begins so
 unfoldable pub mark_at : Level → ℕ → Option Read
 mark_at level first = if is_quote first then Some (opening_quote first) else brace_at level first
 
@@ -85,22 +85,22 @@ may_be_signed LineFeed = true
 may_be_signed Other = true
 may_be_signed Operand = false
 
--- a form as a token, if it takes a byte
-unfoldable pub form_found : Form → List ℕ → Found
-form_found form bytes =
-    if form.length == 0 then Nothing
-    else Token (record { kind = form.kind; length = form.length; change = Stay; before = before_behind form.kind (take form.length bytes) })
+-- a match as a token, if it takes a byte
+unfoldable pub match_found : Match → List ℕ → Found
+match_found longest bytes =
+    if longest.length == 0 then Nothing
+    else Token (record { kind = longest.kind; length = longest.length; change = Stay; before = before_behind longest.kind (take longest.length bytes) })
 
--- a mark, or else the longest form
-unfoldable pub token_found : Option Read → Form → List ℕ → Found
-token_found (Some mark) form bytes = Token mark
-token_found None form bytes = form_found form bytes
+-- a mark, or else the longest match
+unfoldable pub token_found : Option Read → Match → List ℕ → Found
+token_found (Some mark) longest bytes = Token mark
+token_found None longest bytes = match_found longest bytes
 
 -- what stands at the front outside of texts, or in a ${: a blank or a comment, or else a token
 unfoldable pub code_found : Level → Before → List ℕ → Found
 code_found level before bytes =
     if nat_lt 0 (separator_length bytes) then Gap (separator_length bytes) (slice_index bytes 0 == 10)
-    else token_found (mark_at level (slice_index bytes 0)) (form_at (may_be_signed before) bytes) bytes
+    else token_found (mark_at level (slice_index bytes 0)) (match_at (may_be_signed before) bytes) bytes
 
 -- the quote that closes a text
 abbrev pub closing_quote : Read

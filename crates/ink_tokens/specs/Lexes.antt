@@ -1,5 +1,5 @@
 -- What a source comes to: its tokens, or what is wrong with it.
-use Rattle.std.specs.Prelude.{◌≡◌, ℕ, ◌<◌, ◌≤◌, nat_lt, if◌then◌else◌, List, length, drop, Option, None, Some, Result, Ok, Err, Vec}
+use Rattle.std.specs.Prelude.{◌≡◌, ℕ, ◌+◌, ◌^◌, ◌<◌, ◌≤◌, nat_lt, if◌then◌else◌, List, length, drop, Option, None, Some, Result, Ok, Err, Vec}
 use Rattle.std.specs.declared.alloc.Global.{Global}
 use Rattle.ink_base.specs.declared.token.Token.{Token}
 use Rattle.ink_base.specs.declared.refusal.Rule.TheVariants.{BadToken}
@@ -44,7 +44,7 @@ step_at source scan =
     then step_by source scan (found_at scan.nest.level scan.before (drop scan.at source))
     else Ends (end_outcome (end_fault scan.nest.level scan.wide scan.nest.opened) scan.tokens)
 
--- the source up to a place is blanks, comments and these tokens, each the longest form at its place
+-- the source up to a place is blanks, comments and these tokens, each the longest match at its place
 pub data Lexes (source : List ℕ) : Scan → Type 0 where
   begins : Lexes source start
   goes : {scan next : Scan} → Lexes source scan → step_at source scan ≡ Goes next → Lexes source next
@@ -72,3 +72,7 @@ Answers source (Err OutOfMemory) = Unit {0}
 -- a token takes at least a byte of the source
 abbrev pub IsInside : List ℕ → Token → Type 0
 IsInside source token = (token.start < token.end) × (token.end ≤ length source)
+
+-- the source is short enough that each of its bytes, and its end, has a line and a column
+abbrev pub HasPlaces : List ℕ → Type 0
+HasPlaces source = length source + 1 < 2 ^ 32

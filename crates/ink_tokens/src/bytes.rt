@@ -3,7 +3,7 @@ ghost use Rattle.std.specs.Prelude.{◌≡◌, ◌<◌, ◌≤◌, length, drop,
 ghost use Rattle.std.specs.List.{prefix_len};
 ghost use Rattle.ink_tokens.specs.Bytes.{is_of, begins_name, is_quote, is_escaped};
 
-/// Bytes that a form runs over.
+/// Bytes that a word, a number or a comment runs over.
 #[derive(Clone, Copy)]
 pub enum Class {
     /// Letters, digits and `_`.

@@ -1,6 +1,7 @@
 //! What is wrong with a source, and which of two faults is told.
 ghost use Rattle.std.specs.Prelude.{◌≡◌, ◌+◌, ◌<◌, ◌≤◌, ◌^◌, length};
 ghost use Rattle.std.specs.Option.{ForSome};
+ghost use Rattle.ink_tokens.specs.Lexes.{HasPlaces};
 ghost use Rattle.ink_tokens.specs.Fault.{first_fault, end_fault, refusal_at, wide_behind, is_wide_integer};
 
 use crate::number::is_too_wide;
@@ -92,9 +93,9 @@ pub(crate) fn end_fault(level: Level, wide: Option<u32>, opened: u32) -> Option<
 }
 
 /// The fault as the phase tells it.
-pub(crate) fn refused(source: &[u8], fault: Fault) -> JudgeFault
+pub(crate) fn told_fault(source: &[u8], fault: Fault) -> JudgeFault
     requires inside { fault.byte ≤ length source.now }
-    requires small { length source.now + 1 < 2 ^ 32 }
+    requires small { HasPlaces source.now }
     ensures { result ≡ JudgeFault.Refused (refusal_at source.now fault) }
 {
     JudgeFault::Refused(Refusal {

@@ -1,13 +1,13 @@
-//! What stands at a place of a source: the longest form, or what separates tokens.
+//! What stands at a place of a source: the longest match, or what separates tokens.
 ghost use Rattle.std.specs.Prelude.{◌≡◌, ◌<◌, ◌≤◌, ℕ, length, IfSome};
 ghost use Rattle.std.specs.Option.{ForSome};
-ghost use Rattle.ink_tokens.specs.Found.{longer, name_form, form_at, ends_operand, before_behind, brace_at, mark_at, may_be_signed, form_found, token_found, code_found, text_found, found_at, IsWithin};
+ghost use Rattle.ink_tokens.specs.Found.{longer, name_match, match_at, ends_operand, before_behind, brace_at, mark_at, may_be_signed, match_found, token_found, code_found, text_found, found_at, IsWithin};
 
 use crate::bytes::{byte_at, is_quote};
 use crate::gap::separator_length;
 use crate::integer::integer_length;
 use crate::part::{begins_opening, part_length};
-use crate::reading::{Before, Change, Form, Found, Level, Read};
+use crate::reading::{Before, Change, Found, Level, Match, Read};
 use crate::words::{
     const_length, ends_bracket, field_length, is_value_word, name_length, symbol_length, word_kind,
 };
@@ -53,9 +53,9 @@ const OPENING: Read = Read {
     before: Before::Other,
 };
 
-/// The longer of two forms.
+/// The longer of two matches.
 #[tactic(auto, unfolding(crate::specs::Found::longer))]
-fn longer(one: Form, other: Form) -> Form
+fn longer(one: Match, other: Match) -> Match
     ensures value { result ≡ longer one other }
     ensures inside { (n : ℕ) → one.length ≤ n → other.length ≤ n → result.length ≤ n }
 {
@@ -67,41 +67,41 @@ fn longer(one: Form, other: Form) -> Form
 }
 
 /// The word at the front that begins as a name does.
-#[tactic(auto, unfolding(crate::specs::Found::name_form))]
-fn name_form(bytes: &[u8]) -> Form
-    ensures value { result ≡ name_form bytes.now }
+#[tactic(auto, unfolding(crate::specs::Found::name_match))]
+fn name_match(bytes: &[u8]) -> Match
+    ensures value { result ≡ name_match bytes.now }
     ensures inside { result.length ≤ length bytes.now }
 {
     let length = name_length(bytes);
-    Form {
+    Match {
         kind: word_kind(&bytes[..length]),
         length,
     }
 }
 
-/// The longest form at the front, quotes aside.
-#[tactic(auto, unfolding(crate::specs::Found::form_at))]
-fn form_at(bytes: &[u8], may_be_signed: bool) -> Form
-    ensures value { result ≡ form_at may_be_signed bytes.now }
+/// The longest match at the front, quotes aside.
+#[tactic(auto, unfolding(crate::specs::Found::match_at))]
+fn match_at(bytes: &[u8], may_be_signed: bool) -> Match
+    ensures value { result ≡ match_at may_be_signed bytes.now }
     ensures inside { result.length ≤ length bytes.now }
 {
-    let capital = Form {
+    let capital = Match {
         kind: TokenKind::Const,
         length: const_length(bytes),
     };
-    let field = Form {
+    let field = Match {
         kind: TokenKind::Field,
         length: field_length(bytes),
     };
-    let integer = Form {
+    let integer = Match {
         kind: TokenKind::Int,
         length: integer_length(bytes, may_be_signed),
     };
-    let symbol = Form {
+    let symbol = Match {
         kind: TokenKind::Symbol,
         length: symbol_length(bytes),
     };
-    let word = longer(name_form(bytes), longer(capital, field));
+    let word = longer(name_match(bytes), longer(capital, field));
     longer(word, longer(integer, symbol))
 }
 
@@ -177,36 +177,36 @@ fn may_be_signed(before: Before) -> bool
     }
 }
 
-/// A form as a token, if it takes a byte.
-#[tactic(auto, unfolding(crate::specs::Found::form_found))]
-fn form_found(form: Form, bytes: &[u8]) -> Found
-    requires { form.length ≤ length bytes.now }
-    ensures value { result ≡ form_found form bytes.now }
+/// A match as a token, if it takes a byte.
+#[tactic(auto, unfolding(crate::specs::Found::match_found))]
+fn match_found(longest: Match, bytes: &[u8]) -> Found
+    requires { longest.length ≤ length bytes.now }
+    ensures value { result ≡ match_found longest bytes.now }
     ensures inside { IsWithin (length bytes.now) result }
 {
-    if form.length == 0 {
+    if longest.length == 0 {
         return Found::Nothing;
     }
-    let before = before_behind(form.kind, &bytes[..form.length]);
+    let before = before_behind(longest.kind, &bytes[..longest.length]);
     Found::Token(Read {
-        kind: form.kind,
-        length: form.length,
+        kind: longest.kind,
+        length: longest.length,
         change: Change::Stay,
         before,
     })
 }
 
-/// A mark, or else the longest form.
+/// A mark, or else the longest match.
 #[tactic(auto, unfolding(crate::specs::Found::token_found))]
-fn token_found(mark: Option<Read>, form: Form, bytes: &[u8]) -> Found
-    requires form { form.length ≤ length bytes.now }
+fn token_found(mark: Option<Read>, longest: Match, bytes: &[u8]) -> Found
+    requires longest { longest.length ≤ length bytes.now }
     requires mark { ForSome mark (λ read. (0 < read.length) × (read.length ≤ length bytes.now)) }
-    ensures value { result ≡ token_found mark form bytes.now }
+    ensures value { result ≡ token_found mark longest bytes.now }
     ensures inside { IsWithin (length bytes.now) result }
 {
     match mark {
         Some(mark) => Found::Token(mark),
-        None => form_found(form, bytes),
+        None => match_found(longest, bytes),
     }
 }
 
@@ -221,8 +221,8 @@ fn code_found(level: Level, before: Before, bytes: &[u8]) -> Found
     if separator > 0 {
         return Found::Gap(separator, first == b'\n');
     }
-    let form = form_at(bytes, may_be_signed(before));
-    token_found(mark_at(level, first), form, bytes)
+    let longest = match_at(bytes, may_be_signed(before));
+    token_found(mark_at(level, first), longest, bytes)
 }
 
 /// What stands at the front in a text with this quote.

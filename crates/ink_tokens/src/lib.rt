@@ -19,9 +19,9 @@ mod scanner;
 mod words;
 
 pub use lexing::tokens;
-pub use longest::longest_form;
+pub use longest::longest_match;
 
 // The words of the definitions, for the laws of the rooms above.
 pub use bytes::Class;
 pub use fault::Fault;
-pub use reading::{Before, Change, Form, Found, Level, Read};
+pub use reading::{Before, Change, Found, Level, Match, Read};

@@ -39,7 +39,7 @@ fn number_behind(base: u128, number: u128, byte: u8) -> u128
 }
 
 /// What is counted of the number that the digits spell.
-fn counted(base: u128, digits: &[u8]) -> u128
+fn capped_number(base: u128, digits: &[u8]) -> u128
     requires { base ≤ 16 }
     ensures { result ≡ fold (λ number byte. number_behind base (min number GREAT) byte) 0 digits.now }
 {
@@ -53,9 +53,9 @@ fn magnitude(text: &[u8]) -> u128
     ensures { min result GREAT ≡ min (magnitude text.now) GREAT }
 {
     if begins_hexadecimal(text) {
-        counted(16, bytes_from(text, 2))
+        capped_number(16, bytes_from(text, 2))
     } else {
-        counted(10, text)
+        capped_number(10, text)
     }
 }
 

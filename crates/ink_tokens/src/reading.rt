@@ -36,9 +36,9 @@ pub enum Change {
     Leave,
 }
 
-/// A form at a place, and how many bytes it takes. One that takes none doesn't stand there.
+/// What is spelled at a place as a token: its kind, and how many bytes it takes. One that takes none doesn't stand there.
 #[derive(Clone, Copy)]
-pub struct Form {
+pub struct Match {
     pub kind: TokenKind,
     pub length: usize,
 }

@@ -44,8 +44,8 @@ loop-scanner-preserved c =
           (omega (arith, room, ap length is_rest, length-drop scan.at source, held.sound.inside)));
     }
 
-pub refused-requires-clause-inside : goal.refused-requires-clause-inside
-refused-requires-clause-inside c =
+pub told_fault-requires-clause-inside : goal.told_fault-requires-clause-inside
+told_fault-requires-clause-inside c =
     let scanner = c.loop-scanner.scanner in
     let sound = c.loop-scanner.invariant.sound in
     let within = first_fault-le scanner.wide BadToken scanner.at scanner.at sound.wide (omega arith) in
@@ -67,9 +67,9 @@ returns-in-Nothing-clause-answers c =
     let comes = refuses-nothing source c.bytes_from-rest.result.now (scan_of c.loop-scanner.scanner) fault
     c.loop-scanner.invariant.lexes c.loop-scanner-test.true c.bytes_from-rest.ensures c.in-Nothing.ensures.value
     c.first_fault-fault.ensures in
-    subst (λ f. Answers source (Err f)) (sym c.refused.ensures) (fault, comes, refl)
+    subst (λ f. Answers source (Err f)) (sym c.told_fault.ensures) (fault, comes, refl)
 
 pub returns-clause-answers : goal.returns-clause-answers
 returns-clause-answers c =
-    answers-end c.args.source.now (scan_of c.loop-scanner.scanner) c.finished.result
-    c.loop-scanner.invariant.lexes c.loop-scanner-test.false c.finished.ensures
+    answers-end c.args.source.now (scan_of c.loop-scanner.scanner) c.answer_at_end.result
+    c.loop-scanner.invariant.lexes c.loop-scanner-test.false c.answer_at_end.ensures

@@ -1,4 +1,4 @@
--- The form that is found at the front of a token's bytes is that token's.
+-- The match that is found at the front of a token's bytes is that token's.
 use Rattle.std.proofs.Common.{◌≡◌, ℕ, zero, suc, ◌+◌, ◌-◌, ◌<◌, ◌≤◌, Bool, true, false, cond, ◌&&◌, ◌||◌, ◌==◌, List, [], ◌∷◌, length, take, refl, arith, sym, ap, ◌∙◌, subst, ⊎_elim, inl, inr, eq-eqb, eqb-true, get_or-take, length-take-le, leb-true, nat_le, nat_lt}
 use Rattle.std.specs.Prelude.{slice_index}
 use Rattle.std.specs.List.{list_all, list_any, prefix_len}
@@ -7,14 +7,15 @@ use Rattle.std.proofs.lemmas.Bool.Decides.{nat_tests}
 use Rattle.std.specs.Char.{is_ascii_digit, is_ascii_hexdigit, is_ascii_uppercase}
 use Rattle.ink_base.specs.declared.token.TokenKind.{TokenKind}
 use Rattle.ink_base.specs.declared.token.TokenKind.TheVariants as kind
-use Rattle.ink_tokens.specs.declared.reading.Form.{Form}
+use Rattle.ink_tokens.specs.declared.reading.Match.{Match}
 use Rattle.ink_tokens.specs.Bytes.{is_of, begins_name}
-use Rattle.ink_tokens.specs.Found.{longer, name_form, form_at}
+use Rattle.ink_tokens.specs.Found.{longer, name_match, match_at}
 use Rattle.ink_tokens.specs.Words.{is_single, is_pair, word_kind, word_run, name_length, const_length, field_length, symbol_length}
 use Rattle.ink_tokens.specs.Integer.{decimal_length, begins_hexadecimal, hexadecimal_length, hexadecimal_run, unsigned_length, begins_signed, integer_length}
 use Rattle.ink_tokens.specs.Spelling.{IsUnsigned, IsSpelled, spelled_name, spelled_const, spelled_field, spelled_integer, spelled_symbol}
 use Rattle.ink_tokens.specs.declared.bytes.Class.TheVariants.{Word, Decimal, Hexadecimal}
-use Rattle.ink_law_scanning.proofs.Leads.{both-one, both-other, or-one, extends, symbol-facts, pair-extends, capital-no_name, digit-no_name, digit-no_capital, digit-no_at}
+use Rattle.ink_law_scanning.proofs.Leads.{or-one, extends, symbol-facts, pair-extends, capital-no_name, digit-no_name, digit-no_capital, digit-no_at}
+use Rattle.ink_tokens.proofs.Choices.{both-one, both-other}
 
 -- the kind that is told by the first bytes
 pick : Bool → Bool → Bool → Bool → TokenKind → TokenKind

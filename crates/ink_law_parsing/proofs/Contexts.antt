@@ -1,4 +1,4 @@
--- Expressions are read as they were printed, at each place at which an expression may stand.
+-- Expressions are read as they were printed, in each context in which an expression may stand.
 use Rattle.std.proofs.Common.{◌≡◌, ℕ, Bool, true, false, List, [], ◌∷◌, ◌++◌, Some, refl, sym, ap, subst, ◌∙◌, append-nil}
 use Rattle.ink_grammar.specs.declared.token.Mark.TheVariants as mark
 use Rattle.ink_grammar.specs.declared.token.Shape.TheVariants as shape
@@ -84,7 +84,7 @@ expression_chained us v k = subst (λ z. Is Expression [] z v) (append-nil us) (
 pub chain_chained : (us : List Terminal) (v : Found) → Chained us v → Is Chain [] us v
 chain_chained us v k = subst (λ z. Is Chain [] z v) (append-nil us) (opened_chain (k [] v is_chain_rest_2))
 
--- how a tree at a place is read
+-- how a tree in a context is read
 abbrev pub ReadsAt : List ℕ → List ℕ → (List Terminal → Found → Type 0) → Context → Tree → Type 0
 ReadsAt source print K p a = (line end : Bool) (us : List Terminal) → Spells source print line (printed a p) us end → At source print K a line end us
 
@@ -142,7 +142,7 @@ module _ {source print : List ℕ} {a : Tree} where
   mapped g f line end us h = at_widened g (f line end us h)
 
   module _ (ps : List Piece) (same : printed a context.Expression ≡ ps ++ []) (text : printed a context.TextItem ≡ in_text ps) where
-    -- a tree that needs no parentheses at any place
+    -- a tree that needs no parentheses in any context
     pub base_form : printed a context.Chain ≡ ps ++ [] → printed a context.Operand ≡ ps ++ [] → printed a context.Base ≡ ps ++ [] → ReadsAt source print Linkable context.Expression a → Expressed source print a
     base_form e1 e2 e3 f = let g = mapped operand_linkable f in let k = mapped chained_operand g in
         record { at_expression = mapped expression_chained k; at_chain = moved (plain a ps same e1) k; at_operand = moved (plain a ps same e2) g; at_base = moved (plain a ps same e3) f; at_text = inner_text a ps same text }

@@ -1,7 +1,7 @@
 //! Tokens as the grammar sees them.
 ghost use Rattle.std.specs.Prelude.{◌≡◌, IfOk, All, map};
 ghost use Rattle.ink_tokens.specs.Lexes.{IsInside};
-ghost use Rattle.ink_shapes.specs.Shaped as spec;
+ghost use Rattle.ink_shapes.specs.Terminals as spec;
 
 use crate::keyword::keyword_of;
 use crate::mark::mark_of;
@@ -10,7 +10,7 @@ use ink_grammar::{Keyword, Mark, Shape, Terminal};
 use std::alloc::{AllocError, Global};
 
 /// Whether the integer is written in decimal or in hexadecimal digits.
-#[tactic(auto, unfolding(crate::specs::Shaped::integer_shape))]
+#[tactic(auto, unfolding(crate::specs::Terminals::integer_shape))]
 fn integer_shape(text: &[u8]) -> Shape
     ensures { result ≡ spec.integer_shape text.now }
 {
@@ -21,7 +21,7 @@ fn integer_shape(text: &[u8]) -> Shape
     }
 }
 
-#[tactic(auto, unfolding(crate::specs::Shaped::keyword_shape))]
+#[tactic(auto, unfolding(crate::specs::Terminals::keyword_shape))]
 fn keyword_shape(keyword: Option<Keyword>) -> Shape
     ensures { result ≡ spec.keyword_shape keyword }
 {
@@ -31,7 +31,7 @@ fn keyword_shape(keyword: Option<Keyword>) -> Shape
     }
 }
 
-#[tactic(auto, unfolding(crate::specs::Shaped::mark_shape))]
+#[tactic(auto, unfolding(crate::specs::Terminals::mark_shape))]
 fn mark_shape(mark: Option<Mark>) -> Shape
     ensures { result ≡ spec.mark_shape mark }
 {
@@ -41,7 +41,7 @@ fn mark_shape(mark: Option<Mark>) -> Shape
     }
 }
 
-#[tactic(auto, unfolding(crate::specs::Shaped::shape_by))]
+#[tactic(auto, unfolding(crate::specs::Terminals::shape_by))]
 fn shape_by(kind: TokenKind, text: &[u8]) -> Shape
     ensures { result ≡ spec.shape_by kind text.now }
 {
@@ -70,9 +70,9 @@ pub fn shape_of(source: &[u8], token: &ink_base::Token) -> Shape
     shape_by(token.kind, token.text(source))
 }
 
-fn shaped(source: &[u8], token: &ink_base::Token) -> Terminal
+fn terminal_of(source: &[u8], token: &ink_base::Token) -> Terminal
     requires { IsInside source.now token.now }
-    ensures { result ≡ spec.shaped source.now token.now }
+    ensures { result ≡ spec.terminal_of source.now token.now }
 {
     Terminal {
         shape: shape_of(source, token),
@@ -89,11 +89,11 @@ pub fn shapes(
     tokens: &[ink_base::Token],
 ) -> Result<Vec<Terminal>, AllocError>
     requires { All (IsInside source.now) tokens.now }
-    ensures { IfOk result (λ them. them.items ≡ map (spec.shaped source.now) tokens.now) }
+    ensures { IfOk result (λ them. them.items ≡ map (spec.terminal_of source.now) tokens.now) }
 {
     let mut them = Vec::with_capacity(alloc, tokens.len())?;
     for token in tokens {
-        them.push(shaped(source, token))?;
+        them.push(terminal_of(source, token))?;
     }
     Ok(them)
 }

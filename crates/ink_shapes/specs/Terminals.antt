@@ -47,6 +47,6 @@ abbrev pub shape_of : List ℕ → scanned.Token → Shape
 shape_of source token = shape_by token.kind (token_text token source)
 
 -- a token of a source as the grammar sees it
-abbrev pub shaped : List ℕ → scanned.Token → Terminal
-shaped source token =
+abbrev pub terminal_of : List ℕ → scanned.Token → Terminal
+terminal_of source token =
     record { shape = shape_of source token; start = token.start; end = token.end; new_line = token.new_line }

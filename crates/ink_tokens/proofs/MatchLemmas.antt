@@ -1,4 +1,4 @@
--- What a form takes at the front is spelled so.
+-- What a match takes at the front is spelled so.
 use Rattle.std.proofs.Common.{◌≡◌, ℕ, zero, suc, ◌+◌, ◌-◌, ◌<◌, max, Bool, true, false, cond, ◌&&◌, ◌||◌, ◌==◌, List, [], ◌∷◌, length, take, drop, refl, arith, sym, ap, ◌∙◌, subst, ⊎_elim, inl, inr, eqb-true, leb-true, nat_le, nat_lt, get_or-take, length-take-le}
 use Rattle.std.specs.Prelude.{slice_index}
 use Rattle.std.proofs.str.Laws.{order}
@@ -8,35 +8,18 @@ use Rattle.std.specs.Int.{is_in_range}
 use Rattle.std.specs.Char.{is_ascii_digit, is_ascii_hexdigit, is_ascii_uppercase, is_ascii_lowercase}
 use Rattle.ink_tokens.specs.declared.bytes.Class.TheVariants.{Word, Decimal, Hexadecimal}
 use Rattle.ink_tokens.specs.Bytes.{is_of, begins_name}
-use Rattle.ink_tokens.specs.declared.reading.Form.{Form}
-use Rattle.ink_tokens.specs.Found.{longer, name_form, form_at}
+use Rattle.ink_tokens.specs.declared.reading.Match.{Match}
+use Rattle.ink_tokens.specs.Found.{longer, name_match, match_at}
 use Rattle.ink_tokens.specs.Words.{name_length, const_length, field_length, symbol_length, is_pair, is_single, word_run}
 use Rattle.ink_tokens.specs.Integer.{decimal_length, begins_hexadecimal, hexadecimal_length, hexadecimal_run, unsigned_length, begins_signed, integer_length}
 use Rattle.ink_tokens.specs.Spelling.{IsName, IsConst, IsField, IsDecimal, IsHexadecimal, IsUnsigned, IsInteger, IsSymbol, IsSpelled, spelled_name, spelled_const, spelled_field, spelled_integer, spelled_symbol}
-use Rattle.ink_tokens.proofs.SpellingLemmas.{both, first_byte, capital_form, field_form, integer_form, symbol_form, word_form, other_form}
+use Rattle.ink_tokens.proofs.SpellingLemmas.{first_byte, capital_match, field_match, integer_match, symbol_match, word_match, other_match}
+use Rattle.ink_tokens.proofs.Choices.{both-one, both-other, both, one_more, two_more, chosen-keeps}
 
 -- a choice that takes a byte passed its test
 passed : (b : Bool) (run : ℕ) → 0 < cond b run 0 → b ≡ true
 passed true run some = refl
 passed false run some = absurd (omega arith)
-
--- two tests passed
-both-one : (a b : Bool) → (a && b) ≡ true → a ≡ true
-both-one true b all = refl
-both-one false b all = all
-
--- and so did the other
-both-other : (a b : Bool) → (a && b) ≡ true → b ≡ true
-both-other true b all = all
-both-other false b all = cc
-
--- the two ways to write one more
-one_more : (n : ℕ) → suc n ≡ 1 + n
-one_more n = omega arith
-
--- and two more
-two_more : (n : ℕ) → suc (suc n) ≡ 2 + n
-two_more n = omega arith
 
 -- a run with one byte more in front of it
 run-passes-step : (p : ℕ → Bool) (byte : ℕ) (bytes : List ℕ) (b : Bool) → p byte ≡ b →
@@ -238,28 +221,23 @@ name-spelled bytes some =
     let same : cond (begins_name (slice_index bytes 0)) inner 0 ≡ inner = ap (λ b. cond b inner 0) begins in
     subst (λ k. IsName (take k bytes)) (sym same) (name-choice (slice_index bytes (word_run bytes) == 63) bytes begins refl)
 
--- what holds of two forms holds of the one that is chosen
-chosen-keeps : (P : Form → Type 0) (b : Bool) (one other : Form) → P one → P other → P (cond b other one)
-chosen-keeps P true one other of_one of_other = of_other
-chosen-keeps P false one other of_one of_other = of_one
-
--- what holds of two forms holds of the longer
-longer-keeps : (P : Form → Type 0) (one other : Form) → P one → P other → P (longer one other)
+-- what holds of two matches holds of the longer
+longer-keeps : (P : Match → Type 0) (one other : Match) → P one → P other → P (longer one other)
 unfolding longer
-longer-keeps P one other of_one of_other = chosen-keeps P (nat_lt one.length other.length) one other of_one of_other
+longer-keeps P one other of_one of_other = chosen-keeps P (nat_lt one.length other.length) other one of_other of_one
 
--- what the form that is found takes at the front is spelled as a token
-pub form_at-spelled : (may_be_signed : Bool) (bytes : List ℕ) → 0 < (form_at may_be_signed bytes).length →
-    IsSpelled may_be_signed (take (form_at may_be_signed bytes).length bytes) (form_at may_be_signed bytes).kind
-unfolding form_at name_form
-form_at-spelled may_be_signed bytes =
-    let P : Form → Type 0 = λ form. 0 < form.length → IsSpelled may_be_signed (take form.length bytes) form.kind in
-    let capital : P (capital_form bytes) = λ some. spelled_const (const-spelled bytes some) in
-    let field : P (field_form bytes) = λ some. spelled_field (field-spelled bytes some) in
-    let integer : P (integer_form may_be_signed bytes) = λ some. spelled_integer (integer-spelled may_be_signed bytes some) in
-    let symbol : P (symbol_form bytes) = λ some. spelled_symbol (symbol-spelled bytes some) in
-    let name : P (name_form bytes) = λ some. spelled_name (name-spelled bytes some) in
-    longer-keeps P (word_form bytes) (other_form may_be_signed bytes)
-    (longer-keeps P (name_form bytes) (longer (capital_form bytes) (field_form bytes)) name
-    (longer-keeps P (capital_form bytes) (field_form bytes) capital field))
-    (longer-keeps P (integer_form may_be_signed bytes) (symbol_form bytes) integer symbol)
+-- what the match that is found takes at the front is spelled as a token
+pub match_at-spelled : (may_be_signed : Bool) (bytes : List ℕ) → 0 < (match_at may_be_signed bytes).length →
+    IsSpelled may_be_signed (take (match_at may_be_signed bytes).length bytes) (match_at may_be_signed bytes).kind
+unfolding match_at name_match
+match_at-spelled may_be_signed bytes =
+    let P : Match → Type 0 = λ found. 0 < found.length → IsSpelled may_be_signed (take found.length bytes) found.kind in
+    let capital : P (capital_match bytes) = λ some. spelled_const (const-spelled bytes some) in
+    let field : P (field_match bytes) = λ some. spelled_field (field-spelled bytes some) in
+    let integer : P (integer_match may_be_signed bytes) = λ some. spelled_integer (integer-spelled may_be_signed bytes some) in
+    let symbol : P (symbol_match bytes) = λ some. spelled_symbol (symbol-spelled bytes some) in
+    let name : P (name_match bytes) = λ some. spelled_name (name-spelled bytes some) in
+    longer-keeps P (word_match bytes) (other_match may_be_signed bytes)
+    (longer-keeps P (name_match bytes) (longer (capital_match bytes) (field_match bytes)) name
+    (longer-keeps P (capital_match bytes) (field_match bytes) capital field))
+    (longer-keeps P (integer_match may_be_signed bytes) (symbol_match bytes) integer symbol)
