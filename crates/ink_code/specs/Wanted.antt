@@ -1,13 +1,14 @@
 -- The instructions that want an action.
-use Rattle.std.specs.Prelude.{ℕ, Result, Ok, Err, List, [], ◌∷◌}
+use Rattle.std.specs.Prelude.{ℕ, Result, Ok, Err, List, [], ◌∷◌, slice_get}
 use Rattle.ink_base.specs.declared.value.Value.{Value}
 use Rattle.ink_base.specs.declared.value.Value.TheVariants as v
 use Rattle.ink_base.specs.Actions.{Action}
 use Rattle.ink_base.specs.Actions as action
+use Rattle.ink_code.specs.declared.code.Code.{Code}
 use Rattle.ink_code.specs.declared.frame.Frame.{Frame}
 use Rattle.ink_code.specs.declared.wrong.Wrong.{Wrong}
 use Rattle.ink_code.specs.declared.wrong.Wrong.TheVariants as wrong
-use Rattle.ink_code.specs.Machine.{Outcome, after, wants, has, reads}
+use Rattle.ink_code.specs.Machine.{Outcome, given, after, wants, has, reads}
 use Rattle.ink_code.specs.Moves.{text_of}
 use Rattle.ink_code.specs.Process.{Process, with_register, taken_out}
 use Rattle.ink_code.specs.Trees.{Parcel, parted_of}
@@ -27,11 +28,11 @@ abbrev pub process_of : Value → Result ℕ Wrong
 process_of (v.Proc process) = Ok process
 process_of value = Err wrong.Kind
 
--- a message to a process is wanted
-unfoldable pub send_step : ℕ → ℕ → List ℕ → Process → Outcome
-send_step process method arguments p =
-    reads process p (λ value. after (process_of value) (λ receiver. after (taken_out arguments p.frames) (λ parts.
-    sends_off parts.0 parts.1 p (action.Send receiver method))))
+-- a message to a process is wanted, with a method that is there
+unfoldable pub send_step : Code → ℕ → ℕ → List ℕ → Process → Outcome
+send_step code process method arguments p =
+    given wrong.Absent (slice_get code.methods method) (λ called. reads process p (λ value. after (process_of value) (λ receiver. after (taken_out arguments p.frames) (λ parts.
+    sends_off parts.0 parts.1 p (action.Send receiver method)))))
 
 -- a line of the output is wanted
 unfoldable pub print_step : ℕ → Process → Outcome

@@ -116,7 +116,7 @@ pub(crate) fn instr_step(
             process,
             method,
             arguments,
-        } => send_step(alloc, proc, *process, *method, arguments.as_slice()),
+        } => send_step(alloc, proc, code, *process, *method, arguments.as_slice()),
         Instr::Print { text } => print_step(alloc, proc, *text),
         Instr::FutureNew { future, promise } => future_new_step(proc, *future, *promise),
         Instr::FutureGet { to, future } => future_get_step(alloc, proc, *to, *future),

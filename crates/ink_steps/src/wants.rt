@@ -11,7 +11,7 @@ ghost use Rattle.ink_proc.specs.State.{state_of};
 use crate::reads::{register_copy, text_of};
 use crate::stepped::{Request, StepFault, Stepped};
 use ink_base::{Items, Value};
-use ink_code::Wrong;
+use ink_code::{Code, Wrong};
 use ink_parcel::{CutFault, Parcel, cut};
 use ink_proc::Proc;
 use std::alloc::Global;
@@ -130,17 +130,21 @@ pub fn spawn_step(
     Ok(Stepped::Wants(Request::Spawn { kind, fields }))
 }
 
-/// A message to a process is wanted.
-#[tactic(auto, unfolding(ink_code::specs::Wanted::send_step, ink_code::specs::Machine::after))]
+/// A message to a process is wanted, with a method that is there.
+#[tactic(auto, unfolding(ink_code::specs::Wanted::send_step, ink_code::specs::Machine::given, ink_code::specs::Machine::after))]
 pub fn send_step(
     alloc: Global,
     proc: &mut Proc,
+    code: &Code,
     process: u32,
     method: u32,
     arguments: &[u32],
 ) -> Result<Stepped, StepFault>
-    ensures { IsStep (send_step process method arguments.now) result proc.old proc.new }
+    ensures { IsStep (send_step code.now process method arguments.now) result proc.old proc.new }
 {
+    if code.methods.get(u64::from(method)).is_none() {
+        return Err(StepFault::Wrong(Wrong::Absent));
+    }
     let receiver = register_copy(alloc, &proc.frames, process)?;
     let to = process_of(&receiver)?;
     let room = Vec::with_capacity(alloc, arguments.len())?;
