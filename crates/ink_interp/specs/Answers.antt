@@ -30,8 +30,15 @@ abbrev pub Leaves : Result Process Wrong → Result (Unit {0}) Wrong → Process
 Leaves left (Ok _) new = left ≡ Ok new
 Leaves left (Err why) new = left ≡ Err why
 
--- the same; without memory the process is as before, and the reply comes back
+-- the reply carries objects: it is a message, or the value of a future
+abbrev pub HasParcel : Reply → Type 0
+HasParcel (reply.Message method parcel) = Unit {0}
+HasParcel (reply.Got parcel) = Unit {0}
+HasParcel other = ⊥
+
+-- the same; without memory, of which only a reply with objects has need, the process is as before, and the reply comes
+-- back
 abbrev pub AnswersReply : Result Process Wrong → Result (Unit {0}) AnswerFault → Reply → Process → Process → Type 0
 AnswersReply left (Ok _) given old new = left ≡ Ok new
 AnswersReply left (Err (fault.Wrong why)) given old new = left ≡ Err why
-AnswersReply left (Err (fault.OutOfMemory back)) given old new = (new ≡ old) × (back ≡ given)
+AnswersReply left (Err (fault.OutOfMemory back)) given old new = (new ≡ old) × (back ≡ given) × HasParcel given
