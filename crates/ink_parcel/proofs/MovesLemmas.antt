@@ -177,14 +177,14 @@ get-taken before after id taken =
     ∙ ap (λ test. cond test None (get before.objects id)) (is_same-itself id)
 
 -- where a name stands
-found_here : (test : Bool) (pair : ObjectId × Object) (pairs : Pairs) (id : ObjectId) (object : Object) (found : Option Object) → (test ≡ true → id ≡ pair.0) → ((place : ℕ) × (slice_get (pair ∷ pairs) (suc place) ≡ Some (id, object)) → (place : ℕ) × (slice_get (pair ∷ pairs) place ≡ Some (id, object))) → (found ≡ Some object → (place : ℕ) × (slice_get (pair ∷ pairs) (suc place) ≡ Some (id, object))) → cond test (Some pair.1) found ≡ Some object → (place : ℕ) × (slice_get (pair ∷ pairs) place ≡ Some (id, object))
+found_here : (test : Bool) (pair : ObjectId × Object) (pairs : Pairs) (id : ObjectId) (object : Object) (found : Option Object) → (test ≡ true → id ≡ pair.0) → ((index : ℕ) × (slice_get (pair ∷ pairs) (suc index) ≡ Some (id, object)) → (index : ℕ) × (slice_get (pair ∷ pairs) index ≡ Some (id, object))) → (found ≡ Some object → (index : ℕ) × (slice_get (pair ∷ pairs) (suc index) ≡ Some (id, object))) → cond test (Some pair.1) found ≡ Some object → (index : ℕ) × (slice_get (pair ∷ pairs) index ≡ Some (id, object))
 found_here true pair pairs id object found one later behind is =
     let same : pair.1 ≡ object = same_Some pair.1 object is in
     let name : pair.0 ≡ id = sym (one refl) in
     (zero, ap Some (λ j. (name j, same j)))
 found_here false pair pairs id object found one later behind is = later (behind is)
 
-pub find_place : (pairs : Pairs) (id : ObjectId) (object : Object) → find id_cmp id pairs ≡ Some object → (place : ℕ) × (slice_get pairs place ≡ Some (id, object))
+pub find_place : (pairs : Pairs) (id : ObjectId) (object : Object) → find id_cmp id pairs ≡ Some object → (index : ℕ) × (slice_get pairs index ≡ Some (id, object))
 find_place [] id object is = absurd (none-some object is)
 find_place (pair ∷ pairs) id object is =
     found_here (is_same id pair.0) pair pairs id object (find id_cmp id pairs) (is_same-one id pair.0) (λ at. (suc at.0, at.1)) (find_place pairs id object) is
@@ -195,24 +195,24 @@ slice_get-append_within (x ∷ xs) ys zero low = refl
 slice_get-append_within (x ∷ xs) ys (suc i) low = slice_get-append_within xs ys i (omega arith)
 
 -- the pairs that were moved before stay in their places
-pub fields_at-then : {names : ObjectId → Type 0} {before after : HeapView} {had has : Pairs} → Moves names before after had has → (place : ℕ) → place < length had → fields_at has place ≡ fields_at had place
-fields_at-then {had = had} m place low =
-    ap (λ pairs. fields_at pairs place) m.grown
-    ∙ ap (λ found. option_map_or (λ pair. pair.1.fields) found []) (slice_get-append_within had m.more place low)
+pub fields_at-then : {names : ObjectId → Type 0} {before after : HeapView} {had has : Pairs} → Moves names before after had has → (index : ℕ) → index < length had → fields_at has index ≡ fields_at had index
+fields_at-then {had = had} m index low =
+    ap (λ pairs. fields_at pairs index) m.grown
+    ∙ ap (λ found. option_map_or (λ pair. pair.1.fields) found []) (slice_get-append_within had m.more index low)
 
-pub Moves-longer : {names : ObjectId → Type 0} {before after : HeapView} {had has : Pairs} → Moves names before after had has → (place : ℕ) → place < length had → place < length has
-Moves-longer {had = had} m place low =
+pub Moves-longer : {names : ObjectId → Type 0} {before after : HeapView} {had has : Pairs} → Moves names before after had has → (index : ℕ) → index < length had → index < length has
+Moves-longer {had = had} m index low =
     let size = ap length m.grown ∙ length-append had m.more in omega arith
 
-pub fields_at-read : (pairs : Pairs) (place : ℕ) (pair : ObjectId × Object) → place < length pairs → pair ≡ get_or pairs place pair → fields_at pairs place ≡ pair.1.fields
-fields_at-read pairs place pair low is =
-    ap (λ found. option_map_or (λ pair. pair.1.fields) found []) (slice_get_read pairs (length pairs) place pair refl low is)
+pub fields_at-read : (pairs : Pairs) (index : ℕ) (pair : ObjectId × Object) → index < length pairs → pair ≡ get_or pairs index pair → fields_at pairs index ≡ pair.1.fields
+fields_at-read pairs index pair low is =
+    ap (λ found. option_map_or (λ pair. pair.1.fields) found []) (slice_get_read pairs (length pairs) index pair refl low is)
 
 -- one more was looked at
 pub HaveBeenLookedAt-next : {names : ObjectId → Type 0} {before after : HeapView} {had has : Pairs} (count : ℕ) → Moves names before after had has → HaveBeenLookedAt had count before.objects → count < length had → AreGone (fields_at had count) after.objects → HaveBeenLookedAt has (count + 1) after.objects
 HaveBeenLookedAt-next {after = after} {had = had} {has = has} count m looked low here =
-    below_more (λ place. AreGone (fields_at has place) after.objects) count (λ place less.
-    subst (λ fields. AreGone fields after.objects) (sym (fields_at-then m place (omega (arith, less, low)))) (AreGone-then m (fields_at had place) (looked place less))) (subst (λ fields. AreGone fields after.objects) (sym (fields_at-then m count low)) here)
+    below_more (λ index. AreGone (fields_at has index) after.objects) count (λ index less.
+    subst (λ fields. AreGone fields after.objects) (sym (fields_at-then m index (omega (arith, less, low)))) (AreGone-then m (fields_at had index) (looked index less))) (subst (λ fields. AreGone fields after.objects) (sym (fields_at-then m count low)) here)
 
 pub owns_none : (fields : List Value) (object : ObjectId) → fields ≡ [] → Contains fields (Own object) → ⊥
 owns_none [] object is owns = absurd (omega (arith, owns.1))
@@ -283,26 +283,26 @@ HoldsTree-moved {before = before} {after = after} {has = has} values m roots loo
     )
 
 -- what a field of a moved object owns is in the tree too
-in_tree : {before after : HeapView} {has : Pairs} (values : List Value) → Moves (InTree (fields_in before.objects) values) before after [] has → (place : ℕ) (id : ObjectId) (found : Option (ObjectId × Object)) → slice_get has place ≡ found → Contains (fields_at has place) (Own id) → InTree (fields_in before.objects) values id
-in_tree {has = has} values m place id None is owns =
-    absurd (owns_none (fields_at has place) id (ap (λ found. option_map_or (λ pair. pair.1.fields) found []) is) owns)
-in_tree {before = before} {after = after} {has = has} values m place id (Some pair) is owns =
-    let found : find id_cmp pair.0 has ≡ Some pair.1 = find_at has place pair.0 pair.1 (AreApart-moved m) is in
+in_tree : {before after : HeapView} {has : Pairs} (values : List Value) → Moves (InTree (fields_in before.objects) values) before after [] has → (index : ℕ) (id : ObjectId) (found : Option (ObjectId × Object)) → slice_get has index ≡ found → Contains (fields_at has index) (Own id) → InTree (fields_in before.objects) values id
+in_tree {has = has} values m index id None is owns =
+    absurd (owns_none (fields_at has index) id (ap (λ found. option_map_or (λ pair. pair.1.fields) found []) is) owns)
+in_tree {before = before} {after = after} {has = has} values m index id (Some pair) is owns =
+    let found : find id_cmp pair.0 has ≡ Some pair.1 = find_at has index pair.0 pair.1 (AreApart-moved m) is in
     let split = subst (λ part. IsSplit (get before.objects pair.0) (get after.objects pair.0) part) found (SplitsOff-moved m pair.0) in
-    let fields : fields_at has place ≡ fields_in before.objects pair.0 =
+    let fields : fields_at has index ≡ fields_in before.objects pair.0 =
     ap (λ found. option_map_or (λ pair. pair.1.fields) found []) is
     ∙ sym (ap (λ found. option_map_or (λ o. o.fields) found []) split.1) in
     below pair.0 id (named_moved m pair.0 (some_there (find id_cmp pair.0 has) pair.1 found)) (subst (λ fields. Contains fields (Own id)) fields owns)
 
-pub in_tree_at : {before after : HeapView} {has : Pairs} (values : List Value) → Moves (InTree (fields_in before.objects) values) before after [] has → (place : ℕ) (id : ObjectId) → Contains (fields_at has place) (Own id) → InTree (fields_in before.objects) values id
-in_tree_at {has = has} values m place id owns = in_tree values m place id (slice_get has place) refl owns
+pub in_tree_at : {before after : HeapView} {has : Pairs} (values : List Value) → Moves (InTree (fields_in before.objects) values) before after [] has → (index : ℕ) (id : ObjectId) → Contains (fields_at has index) (Own id) → InTree (fields_in before.objects) values id
+in_tree_at {has = has} values m index id owns = in_tree values m index id (slice_get has index) refl owns
 
 -- one value more was looked at
 pub AreGone-push : (values : List Value) (value : Value) (objects : Objects) → AreGone values objects → ((id : ObjectId) → value ≡ Own id → get objects id ≡ None) → AreGone (values ++ value ∷ []) objects
 AreGone-push values value objects gone here id owns =
     elim (Contains-push_cases values value (Own id) owns) [ inl before ↦ gone id before | inr is ↦ here id is ]
 
--- the same with the value in the next place
+-- the same with the value in the next index
 pub AreGone-next : (values : List Value) (index : ℕ) (objects : Objects) → index < length values → AreGone (take index values) objects → ((id : ObjectId) → slice_get values index ≡ Some (Own id) → get objects id ≡ None) → AreGone (take (index + 1) values) objects
 AreGone-next values index objects low gone here =
     let there : slice_get values index ≡ Some (get_or values index Nil) = slice_get-get_or values index Nil low in

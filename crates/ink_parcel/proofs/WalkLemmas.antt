@@ -170,7 +170,7 @@ GoesOn-then {before = before} {middle = middle} {after = after} {had = had} xs y
       ∙ ap (walk (rest ++ fields_of (m.more ++ n.more)) after.objects) (sym (with_pairs-append taken m.more n.more));
 }
 
--- over one more, in the next place
+-- over one more, in the next index
 pub GoesOn-next : {before middle after : HeapView} {had then has : Pairs} (values : List Value) (index : ℕ) (value : Value) → slice_get values index ≡ Some value → GoesOn (take index values) before middle had then → GoesOn (value ∷ []) middle after then has → GoesOn (take (index + 1) values) before after had has
 GoesOn-next {before = before} {after = after} {had = had} {has = has} values index value at m n =
     let low : index < length values = slice_get_within values index value at in
@@ -204,7 +204,7 @@ IsWrong-then {before = before} {middle = middle} all xs behind y is m wrong rest
     ∙ ap (λ values. walk values middle.objects (with_pairs taken m.more)) (append_assoc (y ∷ behind) rest (fields_of m.more))
     ∙ wrong (behind ++ (rest ++ fields_of m.more)) (with_pairs taken m.more)
 
--- a fault at the value in this place is one of the walk over all
+-- a fault at the value in this index is one of the walk over all
 pub Fails-at : {before middle : HeapView} {had then : Pairs} (why : MoveFault) (values : List Value) (index : ℕ) (value : Value) → slice_get values index ≡ Some value → GoesOn (take index values) before middle had then → Fails why (value ∷ []) middle → Fails why values before
 Fails-at move.OutOfMemory values index value at m walks = tt
 Fails-at move.Absent values index value at m walks =
@@ -212,14 +212,14 @@ Fails-at move.Absent values index value at m walks =
 
 -- the walk over a whole tree
 
-fields_behind : (pairs : Pairs) (place : ℕ) → place < length pairs → fields_of (drop place pairs) ≡ fields_at pairs place ++ fields_of (drop (suc place) pairs)
-fields_behind [] place low = absurd (omega arith)
+fields_behind : (pairs : Pairs) (index : ℕ) → index < length pairs → fields_of (drop index pairs) ≡ fields_at pairs index ++ fields_of (drop (suc index) pairs)
+fields_behind [] index low = absurd (omega arith)
 fields_behind ((id, object) ∷ pairs) zero low = refl
-fields_behind ((id, object) ∷ pairs) (suc place) low = fields_behind pairs place (omega arith)
+fields_behind ((id, object) ∷ pairs) (suc index) low = fields_behind pairs index (omega arith)
 
 -- what is still to look at, and what was taken, of some pairs that were moved
 abbrev pub walk_on : ℕ → Objects → Pairs → Result Parted Wrong
-walk_on place left pairs = walk (fields_of (drop place pairs)) left (with_pairs empty pairs)
+walk_on index left pairs = walk (fields_of (drop index pairs)) left (with_pairs empty pairs)
 
 pub walk_on-roots : (values : List Value) {before after : HeapView} {has : Pairs} → GoesOn values before after [] has → parted_of values before.objects ≡ walk_on 0 after.objects has
 unfolding parted_of
@@ -233,26 +233,26 @@ unfolding parted_of
 wrong-roots values before wrong =
     ap (λ all. walk all before.objects empty) (sym (append-nil values)) ∙ wrong [] empty
 
-pub walk_on-next : {before after : HeapView} {had has : Pairs} (place : ℕ) → place < length had → GoesOn (fields_at had place) before after had has → walk_on place before.objects had ≡ walk_on (place + 1) after.objects has
-walk_on-next {before = before} {after = after} {had = had} {has = has} place low m =
-    let behind : fields_of (drop (suc place) had) ++ fields_of m.more ≡ fields_of (drop (suc place) has) =
-    sym (fields_of-append (drop (suc place) had) m.more)
-    ∙ ap fields_of (sym (drop-append-le (suc place) had m.more (omega arith)) ∙ ap (drop (suc place)) (sym m.grown)) in
-    ap (λ values. walk values before.objects (with_pairs empty had)) (fields_behind had place low)
-    ∙ m.goes (fields_of (drop (suc place) had)) (with_pairs empty had)
+pub walk_on-next : {before after : HeapView} {had has : Pairs} (index : ℕ) → index < length had → GoesOn (fields_at had index) before after had has → walk_on index before.objects had ≡ walk_on (index + 1) after.objects has
+walk_on-next {before = before} {after = after} {had = had} {has = has} index low m =
+    let behind : fields_of (drop (suc index) had) ++ fields_of m.more ≡ fields_of (drop (suc index) has) =
+    sym (fields_of-append (drop (suc index) had) m.more)
+    ∙ ap fields_of (sym (drop-append-le (suc index) had m.more (omega arith)) ∙ ap (drop (suc index)) (sym m.grown)) in
+    ap (λ values. walk values before.objects (with_pairs empty had)) (fields_behind had index low)
+    ∙ m.goes (fields_of (drop (suc index) had)) (with_pairs empty had)
     ∙ ap (λ values. walk values after.objects (with_pairs (with_pairs empty had) m.more)) behind
-    ∙ ap (walk (fields_of (drop (suc place) has)) after.objects) (sym (with_pairs-append empty had m.more) ∙ ap (with_pairs empty) (sym m.grown))
-    ∙ ap (λ n. walk_on n after.objects has) (sym (add-one place))
+    ∙ ap (walk (fields_of (drop (suc index) has)) after.objects) (sym (with_pairs-append empty had m.more) ∙ ap (with_pairs empty) (sym m.grown))
+    ∙ ap (λ n. walk_on n after.objects has) (sym (add-one index))
 
-pub wrong-next : (before : HeapView) (had : Pairs) (place : ℕ) → place < length had → IsWrong (fields_at had place) before → walk_on place before.objects had ≡ Err wrong.Object
-wrong-next before had place low wrong =
-    ap (λ values. walk values before.objects (with_pairs empty had)) (fields_behind had place low)
-    ∙ wrong (fields_of (drop (suc place) had)) (with_pairs empty had)
+pub wrong-next : (before : HeapView) (had : Pairs) (index : ℕ) → index < length had → IsWrong (fields_at had index) before → walk_on index before.objects had ≡ Err wrong.Object
+wrong-next before had index low wrong =
+    ap (λ values. walk values before.objects (with_pairs empty had)) (fields_behind had index low)
+    ∙ wrong (fields_of (drop (suc index) had)) (with_pairs empty had)
 
 -- a fault while the fields of one object were looked at
-pub IsUnparted-next : (why : MoveFault) (values : List Value) (objects : Objects) (before : HeapView) (had : Pairs) (place : ℕ) → place < length had → parted_of values objects ≡ walk_on place before.objects had → Fails why (fields_at had place) before → IsUnparted why values objects
-IsUnparted-next move.OutOfMemory values objects before had place low is fails = tt
-IsUnparted-next move.Absent values objects before had place low is fails = is ∙ wrong-next before had place low fails
+pub IsUnparted-next : (why : MoveFault) (values : List Value) (objects : Objects) (before : HeapView) (had : Pairs) (index : ℕ) → index < length had → parted_of values objects ≡ walk_on index before.objects had → Fails why (fields_at had index) before → IsUnparted why values objects
+IsUnparted-next move.OutOfMemory values objects before had index low is fails = tt
+IsUnparted-next move.Absent values objects before had index low is fails = is ∙ wrong-next before had index low fails
 
 -- or the values
 pub IsUnparted-roots : (why : MoveFault) (values : List Value) (before : HeapView) → Fails why values before → IsUnparted why values before.objects
@@ -260,8 +260,8 @@ IsUnparted-roots move.OutOfMemory values before fails = tt
 IsUnparted-roots move.Absent values before fails = wrong-roots values before fails
 
 -- all was looked at
-pub IsParted-end : (values : List Value) (objects left : Objects) (pairs : Pairs) (place : ℕ) → length pairs ≤ place → AreApart pairs → parted_of values objects ≡ walk_on place left pairs → parted_of values objects ≡ Ok (record { left = left; taken = from_entries pairs })
-IsParted-end values objects left pairs place all apart is =
+pub IsParted-end : (values : List Value) (objects left : Objects) (pairs : Pairs) (index : ℕ) → length pairs ≤ index → AreApart pairs → parted_of values objects ≡ walk_on index left pairs → parted_of values objects ≡ Ok (record { left = left; taken = from_entries pairs })
+IsParted-end values objects left pairs index all apart is =
     is
     ∙ ap (λ rest. walk (fields_of rest) left (with_pairs empty pairs)) (drop_of_length-le pairs all)
     ∙ walk-nil left (with_pairs empty pairs)

@@ -55,11 +55,11 @@ fn move_owned(
 }
 
 /// The object that a field of a moved object owns.
-fn owned_at(moved: &[(ObjectId, Object)], place: usize, index: u64) -> Option<ObjectId>
-    requires { place < length moved.now }
-    ensures { OwnedAt result (fields_at moved.now place) index }
+fn owned_at(moved: &[(ObjectId, Object)], index: usize, field: u64) -> Option<ObjectId>
+    requires { index < length moved.now }
+    ensures { OwnedAt result (fields_at moved.now index) field }
 {
-    match moved[place].1.fields.get(index) {
+    match moved[index].1.fields.get(field) {
         Some(Value::Own(id)) => Some(*id),
         _ => None,
     }
@@ -69,15 +69,15 @@ fn owned_at(moved: &[(ObjectId, Object)], place: usize, index: u64) -> Option<Ob
 fn move_fields(
     heap: &mut Heap,
     moved: &mut Vec<(ObjectId, Object)>,
-    place: usize,
+    index: usize,
 ) -> Result<(), MoveFault>
-    requires { place < length moved.old.items }
-    ensures moves { Moves (λ id. Contains (fields_at moved.old.items place) (Own id)) heap.old heap.new moved.old.items moved.new.items }
-    ensures gone { OnOk result (AreGone (fields_at moved.old.items place) heap.new.objects) }
-    ensures walks { Walks result (fields_at moved.old.items place) heap.old heap.new moved.old.items moved.new.items }
+    requires { index < length moved.old.items }
+    ensures moves { Moves (λ id. Contains (fields_at moved.old.items index) (Own id)) heap.old heap.new moved.old.items moved.new.items }
+    ensures gone { OnOk result (AreGone (fields_at moved.old.items index) heap.new.objects) }
+    ensures walks { Walks result (fields_at moved.old.items index) heap.old heap.new moved.old.items moved.new.items }
 {
-    for index in 0..moved[place].1.fields.len() {
-        if let Some(id) = owned_at(moved, place, index) {
+    for field in 0..moved[index].1.fields.len() {
+        if let Some(id) = owned_at(moved, index, field) {
             move_object(heap, moved, id)?;
         }
     }

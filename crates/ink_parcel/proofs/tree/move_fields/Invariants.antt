@@ -5,11 +5,11 @@ use Rattle.ink_parcel.specs.Moves.{AreGone, Moves, fields_at}
 use Rattle.ink_parcel.specs.Walk.{GoesOn}
 use Rattle.ink_parcel.proofs.tree.move_fields.Given as goal
 
-abbrev pub invariant-loop-index : goal.invariant-loop-index
-invariant-loop-index l = record {
-  within : l.place < length l.moved.items;
-  all : l.index-end ≡ length (fields_at l.fn.moved.items l.place);
-  moves : Moves (λ id. Contains (fields_at l.fn.moved.items l.place) (Own id)) l.fn.heap l.heap l.fn.moved.items l.moved.items;
-  walks : GoesOn (take l.index (fields_at l.fn.moved.items l.place)) l.fn.heap l.heap l.fn.moved.items l.moved.items;
-  gone : AreGone (take l.index (fields_at l.fn.moved.items l.place)) l.heap.objects;
+abbrev pub invariant-loop-field : goal.invariant-loop-field
+invariant-loop-field l = record {
+  within : l.index < length l.moved.items;
+  all : l.field-end ≡ length (fields_at l.fn.moved.items l.index);
+  moves : Moves (λ id. Contains (fields_at l.fn.moved.items l.index) (Own id)) l.fn.heap l.heap l.fn.moved.items l.moved.items;
+  walks : GoesOn (take l.field (fields_at l.fn.moved.items l.index)) l.fn.heap l.heap l.fn.moved.items l.moved.items;
+  gone : AreGone (take l.field (fields_at l.fn.moved.items l.index)) l.heap.objects;
 }
