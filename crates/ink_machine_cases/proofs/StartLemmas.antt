@@ -1,5 +1,5 @@
 -- With which objects a process starts: its state alone, without fields.
-use Rattle.std.proofs.Common.{◌≡◌, ◌≢◌, ℕ, Bool, true, false, cond, Option, None, Some, List, [], refl, sym, ap, ◌∙◌, subst}
+use Rattle.std.proofs.Common.{◌≡◌, ℕ, Bool, true, false, cond, Option, None, Some, List, [], refl, sym, ap, ◌∙◌, subst}
 use Rattle.std.proofs.lemmas.Option.{none-some}
 use Rattle.std.specs.Prelude.{IsSome}
 use Rattle.std.specs.List.{slice_get}
@@ -15,7 +15,7 @@ use Rattle.ink_base.proofs.IdentLemmas.{id_cmp_total}
 use Rattle.ink_heap.proofs.ObjectsLemmas.{is_same, is_same-itself, is_same-one}
 use Rattle.ink_proc.specs.Starts.{CanStart, Owns}
 
-state_name : ℕ → ObjectId
+abbrev pub state_name : ℕ → ObjectId
 state_name number = record { process = number; serial = 1 }
 
 one_there : (test : Bool) (object : Object) → IsSome (cond test (Some object) None) → test ≡ true
@@ -30,7 +30,7 @@ none_at : (values : List Value) (place : ℕ) (value : Value) → values ≡ [] 
 none_at values place value none found = none-some value (sym (ap (λ vs. slice_get vs place) none) ∙ found)
 
 module _ (number : ℕ) (object : Object) (none : object.fields ≡ []) where
-  objects : Objects
+  abbrev objects : Objects
   objects = insert empty (state_name number) object
 
   found_at : (id : ObjectId) → get objects id ≡ cond (is_same id (state_name number)) (Some object) None
@@ -61,6 +61,7 @@ module _ (number : ℕ) (object : Object) (none : object.fields ≡ []) where
     owners = λ owner field id owns. absurd (owns_none owner field id owns);
   }
 
--- a process can start with one object without fields, which is its state
-pub can_start : (number : ℕ) (object : Object) (all : Objects) → object.fields ≡ [] → all ≡ insert empty (state_name number) object → CanStart number (state_name number) all
-can_start number object all none same = subst (CanStart number (state_name number)) (sym same) (starts_alone number object none)
+-- a process can start with one object without fields, which is its state, where it was put among no others
+pub can_start : (number : ℕ) (object : Object) (first before all : Objects) → object.fields ≡ [] → first ≡ empty → before ≡ first → all ≡ insert before (state_name number) object → CanStart number (state_name number) all
+can_start number object first before all none is_empty same put =
+    subst (CanStart number (state_name number)) (sym (put ∙ ap (λ objects. insert objects (state_name number) object) (same ∙ is_empty))) (starts_alone number object none)

@@ -16,7 +16,6 @@ use std::alloc::{AllocError, Global};
 const NOT_UNDERSTOOD: &str = "not understood";
 
 /// A process that waits for its first message. Its state, of type 0 and without fields, is its only object.
-#[tactic(auto, using(crate::proofs::StartLemmas::can_start))]
 fn started(alloc: Global, number: u32) -> Result<Proc, AllocError> {
     let mut heap = Heap::new(alloc);
     heap.reserve(1)?;
@@ -30,12 +29,12 @@ fn started(alloc: Global, number: u32) -> Result<Proc, AllocError> {
         fields: Items::new(alloc),
         count: 0,
     };
-    if heap.put_in(state, object).is_err() {
-        return Err(AllocError);
-    }
-    match Proc::start(alloc, number, 0, heap, state) {
-        Ok(process) => Ok(process),
+    match heap.put_in(state, object) {
         Err(_) => Err(AllocError),
+        Ok(()) => match Proc::start(alloc, number, 0, heap, state) {
+            Err(_) => Err(AllocError),
+            Ok(process) => Ok(process),
+        },
     }
 }
 
