@@ -10,7 +10,7 @@ use std::alloc::{AllocError, Global};
 /// More bytes than a source of these cases has.
 const LONGEST: usize = 1_000_000;
 
-/// The limits but for those of a source's length and height, which are no matter of the reading.
+/// The limits that the reading does not ask for.
 const OTHERS: u64 = 1;
 
 /// What is told where a source gives nothing.
