@@ -1,5 +1,5 @@
 //! Choices: `and`, `or`, `if`, `while` and `try` as a Match, and `throw`.
-ghost use Rattle.std.specs.Prelude.{◌≡◌, ◌∷◌, true, false, OnOk};
+ghost use Rattle.std.specs.Prelude.{◌∷◌, OnOk};
 ghost use Rattle.ink_core.specs.Views as view;
 ghost use Rattle.ink_core.specs.Core as core;
 ghost use Rattle.ink_core.specs.Known.{at};
