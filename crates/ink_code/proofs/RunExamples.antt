@@ -9,7 +9,7 @@ use Rattle.ink_base.specs.Limits.{default_numbers}
 use Rattle.ink_code.specs.declared.code.Code.{Code}
 use Rattle.ink_code.specs.declared.instr.Instr.TheVariants as i
 use Rattle.ink_code.specs.declared.method.Method.{Method}
-use Rattle.ink_code.specs.Machine.{given, unless, after}
+use Rattle.ink_code.specs.Machine.{given, when, after}
 use Rattle.ink_code.specs.Moves.{jump_step, panic_step}
 use Rattle.ink_code.specs.Process.{Process, register, at_place}
 use Rattle.ink_code.specs.Replies.{answered}
@@ -62,7 +62,7 @@ abbrev jumping : Method
 jumping = record { name = codes "Main.main"; registers = 1; body = i.Jump 0 ∷ []; lines = []; counted = lit< tt }
 
 spent_in_a_round : (round (code_of jumping) five (alone (at 0 0))).ended ≡ Some (LocalLimit 1 5)
-unfolding round slices_of each_checked_in checked_in slice_of code_step free_step top_step instr_step jump_step at_place given unless
+unfolding round slices_of each_checked_in checked_in slice_of code_step free_step top_step instr_step jump_step at_place given when
 spent_in_a_round = refl
 
 abbrev printing : Method
@@ -70,20 +70,20 @@ printing = record { name = codes "Main.main"; registers = 1; body = i.Print 0 �
 
 -- one action of each process in a round, and the frame goes on behind it
 printed : (round (code_of printing) five (alone (at 0 0))).world.shared.output ≡ codes "hi\n"
-unfolding round slices_of each_checked_in checked_in slice_of code_step free_step top_step instr_step print_step register at_place given unless after after_made process_after reply_of answered
+unfolding round slices_of each_checked_in checked_in slice_of code_step free_step top_step instr_step print_step register at_place given when after after_made process_after reply_of answered
 printed = refl
 
 then_on : (round (code_of printing) five (alone (at 0 0))).world.processes ≡ at 1 0 ∷ []
-unfolding round slices_of each_checked_in checked_in slice_of code_step free_step top_step instr_step print_step register at_place given unless after after_made process_after reply_of answered
+unfolding round slices_of each_checked_in checked_in slice_of code_step free_step top_step instr_step print_step register at_place given when after after_made process_after reply_of answered
 then_on = refl
 
 -- a panic is an action, and ends the run
 panicked_in_a_round : (round (code_of printing) five (alone (at 1 0))).ended ≡ Some (Panicked 1)
-unfolding round slices_of each_checked_in checked_in slice_of code_step free_step top_step instr_step panic_step register at_place given unless after after_made process_after reply_of answered
+unfolding round slices_of each_checked_in checked_in slice_of code_step free_step top_step instr_step panic_step register at_place given when after after_made process_after reply_of answered
 panicked_in_a_round = refl
 
 panic_in_the_journal : (round (code_of printing) five (alone (at 1 0))).journal ≡ 1 ∷ []
-unfolding round slices_of each_checked_in checked_in slice_of code_step free_step top_step instr_step panic_step register at_place given unless after after_made process_after reply_of answered
+unfolding round slices_of each_checked_in checked_in slice_of code_step free_step top_step instr_step panic_step register at_place given when after after_made process_after reply_of answered
 panic_in_the_journal = refl
 
 -- a round that begins a run comes to the take of the opening message

@@ -16,7 +16,7 @@ use Rattle.ink_code.specs.declared.method.Method.{Method}
 use Rattle.ink_code.specs.declared.wrong.Wrong.TheVariants as wrong
 use Rattle.ink_code.specs.Calls.{invoke_step, return_step}
 use Rattle.ink_code.specs.Drops.{drop_step, drop_next}
-use Rattle.ink_code.specs.Machine.{Went, Wants, Panics, Spent, given, unless, unless_text, after, settles, current}
+use Rattle.ink_code.specs.Machine.{Went, Wants, Panics, Spent, given, when, unless_text, after, settles, current}
 use Rattle.ink_code.specs.Moves.{const_step, move_step, jump_step}
 use Rattle.ink_base.specs.Objects.{Objects}
 use Rattle.ink_code.specs.Objects.{object_at}
@@ -56,11 +56,11 @@ returning =
     record { name = codes "Main.main"; registers = 2; body = i.Const 0 0 ∷ i.Move 1 0 ∷ i.Return 1 ∷ []; lines = []; counted = lit< tt }
 
 moved_on : slice_of 2 (code_of returning) default_numbers first ≡ Ok (Went, record first { frames = (record { method = 0; place = 2; registers = v.Empty ∷ v.Int (pos 7) ∷ [] }) ∷ []; ran = 2 })
-unfolding slice_of code_step free_step top_step instr_step const_step move_step register with_register at_place given unless after
+unfolding slice_of code_step free_step top_step instr_step const_step move_step register with_register at_place given when after
 moved_on = refl
 
 returned : slice_of 9 (code_of returning) default_numbers first ≡ Ok (Wants action.Take, record first { frames = []; ran = 3 })
-unfolding slice_of code_step free_step top_step instr_step const_step move_step return_step register with_register at_place given unless after
+unfolding slice_of code_step free_step top_step instr_step const_step move_step return_step register with_register at_place given when after
 returned = refl
 
 -- a value that was moved away is no operand
@@ -69,7 +69,7 @@ moving_twice =
     record { name = codes "Main.main"; registers = 2; body = i.Const 0 0 ∷ i.Move 1 0 ∷ i.Move 1 0 ∷ []; lines = []; counted = lit< tt }
 
 moved_away : slice_of 3 (code_of moving_twice) default_numbers first ≡ Err wrong.Empty
-unfolding slice_of code_step free_step top_step instr_step const_step move_step register with_register at_place given unless after
+unfolding slice_of code_step free_step top_step instr_step const_step move_step register with_register at_place given when after
 moved_away = refl
 
 -- a jump to itself, with five steps at most
@@ -77,7 +77,7 @@ abbrev jumping : Method
 jumping = record { name = codes "Main.main"; registers = 2; body = i.Jump 0 ∷ []; lines = []; counted = lit< tt }
 
 spent : slice_of 9 (code_of jumping) (replicate 14 5) first ≡ Ok (Spent 5, record first { ran = 5 })
-unfolding slice_of code_step free_step top_step instr_step jump_step at_place given unless
+unfolding slice_of code_step free_step top_step instr_step jump_step at_place given when
 spent = refl
 
 -- past the end of a body there is no instruction
@@ -85,7 +85,7 @@ abbrev ending : Method
 ending = record { name = codes "Main.main"; registers = 2; body = i.Jump 1 ∷ []; lines = []; counted = lit< tt }
 
 past_the_end : slice_of 9 (code_of ending) default_numbers first ≡ Err wrong.Absent
-unfolding slice_of code_step free_step top_step instr_step jump_step at_place given unless
+unfolding slice_of code_step free_step top_step instr_step jump_step at_place given when
 past_the_end = refl
 
 -- the place stays at a drop until the value is dropped
@@ -93,11 +93,11 @@ abbrev dropping : Method
 dropping = record { name = codes "Main.main"; registers = 2; body = i.Const 0 0 ∷ i.Drop 0 ∷ []; lines = []; counted = lit< tt }
 
 drop_waits : slice_of 2 (code_of dropping) default_numbers first ≡ Ok (Went, record first { frames = (record { method = 0; place = 1; registers = v.Empty ∷ v.Empty ∷ [] }) ∷ []; pending = v.Int (pos 7) ∷ []; ran = 2 })
-unfolding slice_of code_step free_step top_step instr_step const_step drop_step register with_register at_place given unless after
+unfolding slice_of code_step free_step top_step instr_step const_step drop_step register with_register at_place given when after
 drop_waits = refl
 
 drop_done : slice_of 3 (code_of dropping) default_numbers first ≡ Ok (Went, record first { frames = (record { method = 0; place = 2; registers = v.Empty ∷ v.Empty ∷ [] }) ∷ []; ran = 3 })
-unfolding slice_of code_step free_step top_step instr_step const_step drop_step drop_next register with_register at_place given unless after settles
+unfolding slice_of code_step free_step top_step instr_step const_step drop_step drop_next register with_register at_place given when after settles
 drop_done = refl
 
 -- a method that calls itself, with two frames at most
@@ -105,17 +105,17 @@ abbrev calling : Method
 calling = record { name = codes "Main.main"; registers = 2; body = i.Invoke 0 0 [] ∷ []; lines = []; counted = lit< tt }
 
 frames_at_their_limit : slice_of 9 (code_of calling) (replicate 14 2) first ≡ Ok (Panics (codes "limit reached: frames"), record first { frames = (record { method = 0; place = 0; registers = v.Empty ∷ v.Empty ∷ [] }) ∷ (record { method = 0; place = 0; registers = v.Empty ∷ v.Empty ∷ [] }) ∷ []; ran = 1 })
-unfolding slice_of code_step free_step top_step instr_step invoke_step register with_register at_place taken_out given unless unless_text after
+unfolding slice_of code_step free_step top_step instr_step invoke_step register with_register at_place taken_out given when unless_text after
 frames_at_their_limit = refl
 
 -- an object that owns another: it goes at once, and what it owned is dropped next
 nested_drop : (p : Process) (outer inner : ObjectId) (instr : Instr) (code : Code) → current code p.frames ≡ Some instr → get p.objects outer ≡ Some (record { kind = 3; tag = 0; fields = v.Own inner ∷ []; count = 0 }) → drop_next code (v.Own outer) [] p ≡ Ok (Went, record p { objects = remove p.objects outer; pending = v.Own inner ∷ []; ran = p.ran + 1 })
-unfolding drop_next object_at after unless given settles
+unfolding drop_next object_at after when given settles
 nested_drop p outer inner instr code stands found = rw (found, stands) refl
 
 -- a borrow that is counted makes the drop a panic
 borrow_blocks : (p : Process) (id : ObjectId) (code : Code) → slice_get code.kinds 3 ≡ Some (codes "Cat") → get p.objects id ≡ Some (record { kind = 3; tag = 0; fields = []; count = 2 }) → drop_next code (v.Own id) [] p ≡ Ok (Panics (drop_text (codes "Cat") 2), p)
-unfolding drop_next object_at after unless given settles
+unfolding drop_next object_at after when given settles
 borrow_blocks p id code named found = rw (found, named) refl
 
 -- a store of a value under an object that is in the value's own tree is a panic

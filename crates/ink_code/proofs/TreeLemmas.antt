@@ -13,11 +13,11 @@ use Rattle.ink_base.specs.Ident.{id_cmp}
 use Rattle.ink_base.specs.Tree.{InTree, owned, below}
 use Rattle.ink_base.proofs.IdentLemmas.{id_cmp_exact}
 use Rattle.ink_base.specs.Objects.{Objects}
-use Rattle.ink_code.specs.Trees.{first_owned, fields_in, meets_first, meets, is_under}
+use Rattle.ink_code.specs.Trees.{first_owned, fields_of_found, meets_first, meets, is_under}
 
 -- the values in the fields of an object, and none of one that isn't there
 abbrev pub fields_of : Objects → ObjectId → List Value
-fields_of objects id = fields_in (get objects id)
+fields_of objects id = fields_of_found (get objects id)
 
 behind : (value : Value) (values : List Value) (x : Value) → Contains values x → Contains (value ∷ values) x
 behind value values x h = Contains-append_right (value ∷ []) values x h

@@ -7,13 +7,13 @@ use Rattle.ink_base.specs.declared.value.Value.TheVariants as v
 use Rattle.ink_base.specs.Actions.{reached}
 use Rattle.ink_base.specs.Panics.{cycle_text, index_text}
 use Rattle.ink_code.specs.declared.wrong.Wrong.TheVariants as wrong
-use Rattle.ink_code.specs.Machine.{after, unless, with_objects}
+use Rattle.ink_code.specs.Machine.{after, when, with_objects}
 use Rattle.ink_base.specs.Objects.{changed_object, with_field}
 use Rattle.ink_code.specs.Kinds.{array_kind}
 use Rattle.ink_code.specs.Objects.{with_fields}
 use Rattle.ink_code.specs.Process.{Process}
 use Rattle.ink_code.specs.RowNumbers as rows
-use Rattle.ink_code.specs.Rows.{RowOutcome, gives, fails, unless_fails, unless_full, no_operand, single, pair, int_of, place_in, receives, gives_option, gives_lent}
+use Rattle.ink_code.specs.Rows.{RowOutcome, gives, fails, unless_fails, unless_row_full, no_operand, single, pair, int_of, place_in, receives, gives_option, gives_lent}
 use Rattle.ink_code.specs.Trees.{is_under}
 
 -- how many items an array has
@@ -27,7 +27,7 @@ empty_row values p =
 
 -- a panic where the object is in the tree of a value that is to go under it
 abbrev pub unless_cycle : ObjectId → Value → Process → RowOutcome → RowOutcome
-unless_cycle id value p further = unless (is_under id value p.objects) (fails cycle_text p) further
+unless_cycle id value p further = when (is_under id value p.objects) (fails cycle_text p) further
 
 -- a process with another array in that one's place
 abbrev pub with_items : ObjectId → List Value → Process → Process
@@ -47,7 +47,7 @@ push_row limits values p =
 -- the last item is taken off and given in an Option
 unfoldable pub pop_row : List ℕ → List Value → Process → RowOutcome
 pop_row limits values p =
-    receives array_kind values p (λ id found operands q. no_operand operands (unless_full limits q
+    receives array_kind values p (λ id found operands q. no_operand operands (unless_row_full limits q
     (let last = length found.fields - 1 in gives_option (slice_get found.fields last) (with_items id (take last found.fields) q))))
 
 abbrev pub item_at : List Value → Option ℕ → Option Value
@@ -58,7 +58,7 @@ item_at items (Some place) = slice_get items place
 unfoldable pub get_row : List ℕ → List Value → Process → RowOutcome
 get_row limits values p =
     receives array_kind values p (λ id found operands q. after (single operands) (λ value. after (int_of value) (λ index.
-    unless_full limits q (gives_lent (item_at found.fields (place_in index (length found.fields))) q))))
+    unless_row_full limits q (gives_lent (item_at found.fields (place_in index (length found.fields))) q))))
 
 abbrev pub found_item : Option Value → ℕ → (ℕ → Value → RowOutcome) → RowOutcome
 found_item None place further = Err wrong.Absent

@@ -39,10 +39,10 @@ unfoldable pub needs : {B : Type 0} → Bool → Wrong → Result B Wrong → Re
 needs true why further = further
 needs false why further = Err why
 
--- the one where the test holds, and else the other
-unfoldable pub unless : {B : Type 0} → Bool → Result B Wrong → Result B Wrong → Result B Wrong
-unless true other further = other
-unless false other further = further
+-- this where the test holds, and what is further else
+unfoldable pub when : {B : Type 0} → Bool → Result B Wrong → Result B Wrong → Result B Wrong
+when true this further = this
+when false this further = further
 
 -- what was found goes on, and what is wrong stays so
 unfoldable pub after : {A B : Type 0} → Result A Wrong → (A → Result B Wrong) → Result B Wrong

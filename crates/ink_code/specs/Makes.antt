@@ -12,7 +12,7 @@ use Rattle.ink_base.specs.declared.object.Object.{Object}
 use Rattle.ink_code.specs.declared.wrong.Wrong.TheVariants as wrong
 use Rattle.ink_code.specs.Full.{full_text}
 use Rattle.ink_code.specs.Kinds.{array_kind}
-use Rattle.ink_code.specs.Machine.{Outcome, given, unless, unless_text, after, went, panics, passed, has, reads, put, with_objects}
+use Rattle.ink_code.specs.Machine.{Outcome, given, when, unless_text, after, went, panics, passed, has, reads, put, with_objects}
 use Rattle.ink_code.specs.Moves.{copies}
 use Rattle.ink_base.specs.Objects.{changed_object, with_field}
 use Rattle.ink_code.specs.Objects.{object_at, field_at, lent, object_of, owned_by}
@@ -65,7 +65,7 @@ load_borrow_step next to object field p =
 unfoldable pub store_step : ℕ → ℕ → ℕ → ℕ → ℕ → Process → Outcome
 store_step next to object field from p =
     has to p (names object p (λ id. reads from p (λ value. after (field_at p.objects id field) (λ old.
-    unless (is_under id value p.objects) (panics cycle_text p)
+    when (is_under id value p.objects) (panics cycle_text p)
     (went next (put to old (put from v.Empty (with_objects (changed_object p.objects id (with_field field value)) p))))))))
 
 -- a register gets the tag of an object
@@ -76,7 +76,7 @@ tag_step next to object p =
 -- an object that is given up: a panic where a borrow of it is counted
 abbrev pub gives_up : Code → Object → Process → Outcome → Outcome
 gives_up code found p further =
-    unless (nat_lt 0 found.count) (given wrong.Absent (slice_get code.kinds found.kind) (λ name. panics (drop_text name found.count) p)) further
+    when (nat_lt 0 found.count) (given wrong.Absent (slice_get code.kinds found.kind) (λ name. panics (drop_text name found.count) p)) further
 
 -- an object is given up, and its fields go to registers
 unfoldable pub take_apart_step : Code → ℕ → List ℕ → ℕ → Process → Outcome

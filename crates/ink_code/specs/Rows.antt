@@ -90,8 +90,8 @@ receives kind (receiver ∷ operands) p further =
     (after (after_borrow id p.objects) (λ objects. further id found operands (with_objects objects p)))))
 
 -- the limits of a row that makes an object: first those that live, then those that the process ever made
-abbrev pub unless_full : List ℕ → Process → RowOutcome → RowOutcome
-unless_full limits p further = unless_fails (full_text limits (len p.objects) p.made) p further
+abbrev pub unless_row_full : List ℕ → Process → RowOutcome → RowOutcome
+unless_row_full limits p further = unless_fails (full_text limits (len p.objects) p.made) p further
 
 -- a new object is given
 abbrev pub gives_made : ℕ → ℕ → List Value → Process → RowOutcome

@@ -12,7 +12,7 @@ use Rattle.ink_code.specs.declared.wrong.Wrong.TheVariants as wrong
 use Rattle.ink_code.specs.Calls.{invoke_step, invoke_bound_step, return_step}
 use Rattle.ink_code.specs.Drops.{drop_step, drop_maybe_step, drop_next}
 use Rattle.ink_code.specs.Fetch.{fetch}
-use Rattle.ink_code.specs.Machine.{Outcome, Spent, given, unless, wants}
+use Rattle.ink_code.specs.Machine.{Outcome, Spent, given, when, wants}
 use Rattle.ink_code.specs.Makes.{make_step, make_array_step, load_step, load_borrow_step, store_step, tag_step, take_apart_step}
 use Rattle.ink_code.specs.Moves.{const_step, move_step, copy_step, borrow_step, exchange_step, my_proc_step, jump_step, jump_if_step, panic_step}
 use Rattle.ink_code.specs.Prims.{prim_step}
@@ -64,4 +64,4 @@ free_step code limits (value ∷ left) p = drop_next code value left p
 -- one step of a process
 unfoldable pub code_step : Code → List ℕ → Process → Outcome
 code_step code limits p =
-    unless (nat_le (limit_of limit.Local limits) p.ran) (Ok (Spent p.ran, p)) (free_step code limits p.pending p)
+    when (nat_le (limit_of limit.Local limits) p.ran) (Ok (Spent p.ran, p)) (free_step code limits p.pending p)

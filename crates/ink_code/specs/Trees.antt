@@ -58,14 +58,14 @@ put_each ((id, object) ∷ rest) objects = insert (put_each rest objects) id obj
 unfoldable pub joined : Objects → Parcel → Objects
 joined objects parcel = put_each (entries parcel.objects) objects
 
-abbrev pub fields_in : Option Object → List Value
-fields_in None = []
-fields_in (Some object) = object.fields
+abbrev pub fields_of_found : Option Object → List Value
+fields_of_found None = []
+fields_of_found (Some object) = object.fields
 
 abbrev pub meets_first : ObjectId → Option (ObjectId × List Value) → Objects → (List Value → Bool) → Bool
 meets_first id None objects further = false
 meets_first id (Some (first, rest)) objects further =
-    if is_eq (id_cmp first id) then true else further (fields_in (get objects first) ++ rest)
+    if is_eq (id_cmp first id) then true else further (fields_of_found (get objects first) ++ rest)
 
 -- whether a walk down the objects that values own comes to that one, in so many steps
 unfoldable pub meets : ℕ → ObjectId → List Value → Objects → Bool

@@ -52,7 +52,7 @@ fn free_step(
 ///
 /// `Spent` where it made as many steps since its last action as the limit of local steps allows. A step that went on
 /// raises the number of steps by one, and no other step does.
-#[tactic(auto, unfolding(ink_code::specs::Step::code_step, ink_code::specs::Machine::unless))]
+#[tactic(auto, unfolding(ink_code::specs::Step::code_step, ink_code::specs::Machine::when))]
 pub fn step(
     alloc: Global,
     proc: &mut Proc,

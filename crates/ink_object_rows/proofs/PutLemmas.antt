@@ -14,7 +14,7 @@ use Rattle.ink_base.specs.Objects.{Objects, changed_object, counted_down, is_cou
 use Rattle.ink_base.specs.Panics.{cycle_text}
 use Rattle.ink_code.specs.declared.wrong.Wrong.{Wrong}
 use Rattle.ink_code.specs.ArrayRows.{push_row, with_items}
-use Rattle.ink_code.specs.Machine.{after, unless, with_objects}
+use Rattle.ink_code.specs.Machine.{after, when, with_objects}
 use Rattle.ink_code.specs.Kinds.{array_kind}
 use Rattle.ink_code.specs.Objects.{with_fields}
 use Rattle.ink_code.specs.Process.{Process}
@@ -55,7 +55,7 @@ single_is [] value is = cc
 single_is (a ∷ []) value is = ap (λ answer. value_or answer a ∷ []) is
 single_is (a ∷ b ∷ others) value is = cc
 
-pub push_row-received : (limits : List ℕ) (values : List Value) (p : Process) → push_row limits values p ≡ after (received array_kind values p.objects) (λ one. after (single one.operands) (λ value. unless_fails (reached limit.Array (length one.found.fields) limits) (with_objects one.left p) (unless (is_under one.id value one.left) (fails cycle_text (with_objects one.left p)) (gives v.Nil (with_items one.id (one.found.fields ++ value ∷ []) (with_objects one.left p))))))
+pub push_row-received : (limits : List ℕ) (values : List Value) (p : Process) → push_row limits values p ≡ after (received array_kind values p.objects) (λ one. after (single one.operands) (λ value. unless_fails (reached limit.Array (length one.found.fields) limits) (with_objects one.left p) (when (is_under one.id value one.left) (fails cycle_text (with_objects one.left p)) (gives v.Nil (with_items one.id (one.found.fields ++ value ∷ []) (with_objects one.left p))))))
 unfolding push_row
 push_row-received limits values p = receives-received array_kind values p _
 

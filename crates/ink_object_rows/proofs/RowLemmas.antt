@@ -16,7 +16,7 @@ use Rattle.ink_code.specs.Machine.{after, given, with_objects}
 use Rattle.ink_code.specs.Kinds.{array_kind, option_kind, stdout_kind}
 use Rattle.ink_code.specs.Objects.{lent, with_fields}
 use Rattle.ink_code.specs.Process.{Process}
-use Rattle.ink_code.specs.Rows.{RowOutcome, gives, no_operand, unless_fails, unless_full, gives_made, gives_lent, gives_option, place_in, single, int_of}
+use Rattle.ink_code.specs.Rows.{RowOutcome, gives, no_operand, unless_fails, unless_row_full, gives_made, gives_lent, gives_option, place_in, single, int_of}
 use Rattle.ink_object_rows.specs.Items.{last_item, other_items, lent_item}
 use Rattle.ink_object_rows.specs.Making.{gives_copy, lent_value}
 use Rattle.ink_object_rows.specs.Receiver.{Received, received, received_alone}
@@ -65,7 +65,7 @@ unfolding after gives_copy
 lends-copy true item p = lends_field item p
 lends-copy false item p = refl
 
-as_ref_step : (limits : List ℕ) (p : Process) (one : Received) → unless_full limits (with_objects one.left p) (lends_value (has_value one.found) (slice_get one.found.fields 0) (with_objects one.left p)) ≡ unless_fails (full_text limits (len one.left) p.made) (with_objects one.left p) (after (lent_value (Some one.found)) (λ copy. gives_copy copy (with_objects one.left p)))
+as_ref_step : (limits : List ℕ) (p : Process) (one : Received) → unless_row_full limits (with_objects one.left p) (lends_value (has_value one.found) (slice_get one.found.fields 0) (with_objects one.left p)) ≡ unless_fails (full_text limits (len one.left) p.made) (with_objects one.left p) (after (lent_value (Some one.found)) (λ copy. gives_copy copy (with_objects one.left p)))
 unfolding lent_value
 as_ref_step limits p one =
     ap (unless_fails (full_text limits (len one.left) p.made) (with_objects one.left p)) (lends-copy (has_value one.found) (slice_get one.found.fields 0) (with_objects one.left p))
@@ -73,7 +73,7 @@ as_ref_step limits p one =
 pub as_ref_row-alone : (limits : List ℕ) (values : List Value) (p : Process) → as_ref_row limits values p ≡ after (received_alone option_kind values p.objects) (λ one. unless_fails (full_text limits (len one.left) p.made) (with_objects one.left p) (after (lent_value (Some one.found)) (λ copy. gives_copy copy (with_objects one.left p))))
 unfolding as_ref_row
 as_ref_row-alone limits values p =
-    receives-alone option_kind values p (λ id found q. unless_full limits q (lends_value (has_value found) (slice_get found.fields 0) q))
+    receives-alone option_kind values p (λ id found q. unless_row_full limits q (lends_value (has_value found) (slice_get found.fields 0) q))
     ∙ after-alike (received_alone option_kind values p.objects) _ _ (as_ref_step limits p)
 
 pub ruleset makes = (stdout_row-full, as_ref_row-alone, len-changed_object)
@@ -81,20 +81,20 @@ pub ruleset makes = (stdout_row-full, as_ref_row-alone, len-changed_object)
 pub pop_row-alone : (limits : List ℕ) (values : List Value) (p : Process) → pop_row limits values p ≡ after (received_alone array_kind values p.objects) (λ one. unless_fails (full_text limits (len one.left) p.made) (with_objects one.left p) (gives_option (last_item one.found.fields) (with_objects (changed_object one.left one.id (with_fields (other_items one.found.fields))) p)))
 unfolding pop_row
 pop_row-alone limits values p =
-    receives-alone array_kind values p (λ id found q. unless_full limits q (gives_option (last_item found.fields) (with_items id (other_items found.fields) q)))
+    receives-alone array_kind values p (λ id found q. unless_row_full limits q (gives_option (last_item found.fields) (with_items id (other_items found.fields) q)))
 
 pub clear_row-alone : (values : List Value) (p : Process) → clear_row values p ≡ after (received_alone array_kind values p.objects) (λ one. gives v.Nil (record (with_items one.id [] (with_objects one.left p)) { pending = one.found.fields ++ p.pending }))
 unfolding clear_row
 clear_row-alone values p = receives-alone array_kind values p _
 
-get_end : (limits : List ℕ) (p : Process) (one : Received) (index : ℤ) → unless_full limits (with_objects one.left p) (gives_lent (item_at one.found.fields (place_in index (length one.found.fields))) (with_objects one.left p)) ≡ unless_fails (full_text limits (len one.left) p.made) (with_objects one.left p) (gives_copy (lent_item index one.found.fields) (with_objects one.left p))
+get_end : (limits : List ℕ) (p : Process) (one : Received) (index : ℤ) → unless_row_full limits (with_objects one.left p) (gives_lent (item_at one.found.fields (place_in index (length one.found.fields))) (with_objects one.left p)) ≡ unless_fails (full_text limits (len one.left) p.made) (with_objects one.left p) (gives_copy (lent_item index one.found.fields) (with_objects one.left p))
 get_end limits p one index =
     ap (unless_fails (full_text limits (len one.left) p.made) (with_objects one.left p)) (gives_lent-copy (item_at one.found.fields (place_in index (length one.found.fields))) (with_objects one.left p))
 
 pub get_row-received : (limits : List ℕ) (values : List Value) (p : Process) → get_row limits values p ≡ after (received array_kind values p.objects) (λ one. after (single one.operands) (λ value. after (int_of value) (λ index. unless_fails (full_text limits (len one.left) p.made) (with_objects one.left p) (gives_copy (lent_item index one.found.fields) (with_objects one.left p)))))
 unfolding get_row
 get_row-received limits values p =
-    receives-received array_kind values p (λ id found operands q. after (single operands) (λ value. after (int_of value) (λ index. unless_full limits q (gives_lent (item_at found.fields (place_in index (length found.fields))) q))))
+    receives-received array_kind values p (λ id found operands q. after (single operands) (λ value. after (int_of value) (λ index. unless_row_full limits q (gives_lent (item_at found.fields (place_in index (length found.fields))) q))))
     ∙ after-alike (received array_kind values p.objects) _ _ (λ one. after-alike (single one.operands) _ _ (λ value. after-alike (int_of value) _ _ (λ index. get_end limits p one index)))
 
 pub ruleset gets = (get_row-received, len-changed_object)

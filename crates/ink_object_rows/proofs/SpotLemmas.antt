@@ -15,7 +15,7 @@ use Rattle.ink_base.specs.Actions.{reached}
 use Rattle.ink_base.specs.Objects.{Objects, changed_object, counted_down, with_field, with_more}
 use Rattle.ink_base.specs.Panics.{cycle_text}
 use Rattle.ink_code.specs.ArrayRows.{push_row, set_row, swap_row, with_items}
-use Rattle.ink_code.specs.Machine.{after, unless, with_objects}
+use Rattle.ink_code.specs.Machine.{after, when, with_objects}
 use Rattle.ink_code.specs.Process.{Process}
 use Rattle.ink_code.specs.Rows.{RowOutcome, Gives, gives, fails, single, unless_fails}
 use Rattle.ink_code.specs.Trees.{is_under}
@@ -95,7 +95,7 @@ same_state p objects pending one other =
     ap (λ o. record p { objects = o; pending = pending }) one ∙ ap (λ waits. record p { pending = waits }) other
 
 abbrev pushed_to : Object → Objects → ObjectId → Value → Process → RowOutcome
-pushed_to found left id value p = unless (is_under id value left) (fails cycle_text (with_objects left p)) (gives v.Nil (with_items id (found.fields ++ value ∷ []) (with_objects left p)))
+pushed_to found left id value p = when (is_under id value left) (fails cycle_text (with_objects left p)) (gives v.Nil (with_items id (found.fields ++ value ∷ []) (with_objects left p)))
 
 begun : (limits : List ℕ) (values : List Value) (p : Process) (id : ObjectId) (value : Value) (size : ℕ) (b : IsItemGiven values p.objects id value size) → push_row limits values p ≡ unless_fails (reached limit.Array size limits) (with_objects (changed_object p.objects id counted_down) p) (pushed_to b.all.found (changed_object p.objects id counted_down) id value p)
 unfolding after
@@ -112,19 +112,19 @@ unfolding unless_fails
 push_full limits values p id value size text b is =
     ap raised (begun limits values p id value size b ∙ ap (λ text. unless_fails text (with_objects (changed_object p.objects id counted_down) p) (pushed_to b.all.found (changed_object p.objects id counted_down) id value p)) is)
 
-tested : (limits : List ℕ) (values : List Value) (p : Process) (id : ObjectId) (value : Value) (size : ℕ) (b : IsItemGiven values p.objects id value size) → reached limit.Array size limits ≡ None → push_row limits values p ≡ unless (is_under id value p.objects) (fails cycle_text (with_objects (changed_object p.objects id counted_down) p)) (gives v.Nil (with_items id (b.all.found.fields ++ value ∷ []) (with_objects (changed_object p.objects id counted_down) p)))
+tested : (limits : List ℕ) (values : List Value) (p : Process) (id : ObjectId) (value : Value) (size : ℕ) (b : IsItemGiven values p.objects id value size) → reached limit.Array size limits ≡ None → push_row limits values p ≡ when (is_under id value p.objects) (fails cycle_text (with_objects (changed_object p.objects id counted_down) p)) (gives v.Nil (with_items id (b.all.found.fields ++ value ∷ []) (with_objects (changed_object p.objects id counted_down) p)))
 unfolding unless_fails
 tested limits values p id value size b free =
     let left : Objects = changed_object p.objects id counted_down in
     begun limits values p id value size b
     ∙ ap (λ text. unless_fails text (with_objects left p) (pushed_to b.all.found left id value p)) free
-    ∙ ap (λ test. unless test (fails cycle_text (with_objects left p)) (gives v.Nil (with_items id (b.all.found.fields ++ value ∷ []) (with_objects left p)))) (is_under-counted id value p.objects id)
+    ∙ ap (λ test. when test (fails cycle_text (with_objects left p)) (gives v.Nil (with_items id (b.all.found.fields ++ value ∷ []) (with_objects left p)))) (is_under-counted id value p.objects id)
 
 pub push_cycle : (limits : List ℕ) (values : List Value) (p : Process) (id : ObjectId) (value : Value) (size : ℕ) (text : List ℕ) → IsItemGiven values p.objects id value size → reached limit.Array size limits ≡ None → is_under id value p.objects ≡ true → text ≡ cycle_text → raised (push_row limits values p) ≡ Some text
-unfolding unless
+unfolding when
 push_cycle limits values p id value size text b free cycle is =
     let left : Objects = changed_object p.objects id counted_down in
-    ap raised (tested limits values p id value size b free ∙ ap (λ test. unless test (fails cycle_text (with_objects left p)) (gives v.Nil (with_items id (b.all.found.fields ++ value ∷ []) (with_objects left p)))) cycle)
+    ap raised (tested limits values p id value size b free ∙ ap (λ test. when test (fails cycle_text (with_objects left p)) (gives v.Nil (with_items id (b.all.found.fields ++ value ∷ []) (with_objects left p)))) cycle)
     ∙ ap Some (sym is)
 
 -- the item that is moved out of the operands
@@ -133,10 +133,10 @@ item_is values objects id value other size b =
     ap (λ all. get_or all 1 other) (b.all.behind ∙ ap (λ rest. v.Bor id ∷ rest) (single_is b.operands value b.lone))
 
 pub push_done : (limits : List ℕ) (values : List Value) (p : Process) (id : ObjectId) (value item : Value) (size : ℕ) (mid new : Objects) → IsItemGiven values p.objects id value size → reached limit.Array size limits ≡ None → is_under id value p.objects ≡ false → item ≡ value → mid ≡ changed_object p.objects id (with_more item) → new ≡ changed_object mid id counted_down → push_row limits values p ≡ Ok (Gives v.Nil, with_objects new p)
-unfolding unless
+unfolding when
 push_done limits values p id value item size mid new b free under item_is mid_is new_is =
     let left : Objects = changed_object p.objects id counted_down in
     tested limits values p id value size b free
-    ∙ ap (λ test. unless test (fails cycle_text (with_objects left p)) (gives v.Nil (with_items id (b.all.found.fields ++ value ∷ []) (with_objects left p)))) under
+    ∙ ap (λ test. when test (fails cycle_text (with_objects left p)) (gives v.Nil (with_items id (b.all.found.fields ++ value ∷ []) (with_objects left p)))) under
     ∙ ap (λ one. gives v.Nil (with_items id (b.all.found.fields ++ one ∷ []) (with_objects left p))) (sym item_is)
     ∙ ap (λ objects. gives v.Nil (with_objects objects p)) (sym (new_is ∙ ap (λ o. changed_object o id counted_down) mid_is ∙ counted-with_more p.objects id b.all.found item b.all.there))

@@ -6,7 +6,7 @@ use Rattle.ink_base.specs.declared.value.Value.TheVariants as v
 use Rattle.ink_base.specs.Panics.{cycle_text}
 use Rattle.ink_code.specs.declared.wrong.Wrong.{Wrong}
 use Rattle.ink_code.specs.ArrayRows.{set_row, swap_row, at_item, found_item, unless_cycle, with_item}
-use Rattle.ink_code.specs.Machine.{after, unless, with_objects}
+use Rattle.ink_code.specs.Machine.{after, when, with_objects}
 use Rattle.ink_code.specs.Kinds.{array_kind}
 use Rattle.ink_code.specs.Process.{Process}
 use Rattle.ink_code.specs.Rows.{RowOutcome, gives, fails, pair, int_of, place_in, receives}
@@ -22,8 +22,8 @@ Doing = Spot → Process → RowOutcome
 abbrev spot_of : Received → Value → ℕ → Value → Spot
 spot_of one value place old = record { id = one.id; place = place; value = value; old = old; left = one.left }
 
-cycle_alike : (test : Bool) (one : Received) (value : Value) (place : ℕ) (old : Value) (further : Doing) (p : Process) → unless test (fails cycle_text (with_objects one.left p)) (further (spot_of one value place old) (with_objects one.left p)) ≡ after (cycle_tested test one value place old) (on_tested further p)
-unfolding unless after
+cycle_alike : (test : Bool) (one : Received) (value : Value) (place : ℕ) (old : Value) (further : Doing) (p : Process) → when test (fails cycle_text (with_objects one.left p)) (further (spot_of one value place old) (with_objects one.left p)) ≡ after (cycle_tested test one value place old) (on_tested further p)
+unfolding when after
 cycle_alike true one value place old further p = refl
 cycle_alike false one value place old further p = refl
 

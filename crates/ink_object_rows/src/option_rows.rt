@@ -155,7 +155,7 @@ fn take_value(proc: &mut Proc, id: &ObjectId) -> Result<Value, Wrong>
 }
 
 /// The Option is given up, and its value is given: a panic where a borrow of it is counted, and else where it has none.
-#[tactic(auto, unfolding(ink_code::specs::OptionRows::value_row, ink_code::specs::Machine::after, ink_code::specs::Machine::needs, ink_code::specs::Machine::unless, ink_code::specs::Objects::object_at))]
+#[tactic(auto, unfolding(ink_code::specs::OptionRows::value_row, ink_code::specs::Machine::after, ink_code::specs::Machine::needs, ink_code::specs::Machine::when, ink_code::specs::Objects::object_at))]
 pub fn value_row(
     alloc: Global,
     proc: &mut Proc,

@@ -94,7 +94,7 @@ fn panic_borrowed(
 }
 
 /// The next drop is that of an object's owner: the object goes, and its fields wait in its place.
-#[tactic(auto, unfolding(ink_code::specs::Machine::after, ink_code::specs::Machine::unless, ink_code::specs::Objects::object_at))]
+#[tactic(auto, unfolding(ink_code::specs::Machine::after, ink_code::specs::Machine::when, ink_code::specs::Objects::object_at))]
 fn drop_owner(
     alloc: Global,
     proc: &mut Proc,
@@ -166,7 +166,7 @@ pub fn drop_next(alloc: Global, proc: &mut Proc, code: &Code) -> Result<Stepped,
 }
 
 /// An object is given up, and its fields go to registers. It is a panic where a borrow of it is counted.
-#[tactic(auto, unfolding(ink_code::specs::Makes::take_apart_step, ink_code::specs::Objects::object_at, ink_code::specs::Machine::given, ink_code::specs::Machine::after, ink_code::specs::Machine::unless))]
+#[tactic(auto, unfolding(ink_code::specs::Makes::take_apart_step, ink_code::specs::Objects::object_at, ink_code::specs::Machine::given, ink_code::specs::Machine::after, ink_code::specs::Machine::when))]
 pub fn take_apart_step(
     alloc: Global,
     proc: &mut Proc,

@@ -133,7 +133,7 @@ pub fn tag_step(
 }
 
 /// A field gets a value, and a register gets the old one. It is a panic where the object is in the tree of the value.
-#[tactic(auto, unfolding(ink_code::specs::Makes::store_step, ink_code::specs::Machine::given, ink_code::specs::Machine::after, ink_code::specs::Machine::unless))]
+#[tactic(auto, unfolding(ink_code::specs::Makes::store_step, ink_code::specs::Machine::given, ink_code::specs::Machine::after, ink_code::specs::Machine::when))]
 pub fn store_step(
     alloc: Global,
     proc: &mut Proc,
