@@ -302,7 +302,7 @@ pub AreGone-push : (values : List Value) (value : Value) (objects : Objects) →
 AreGone-push values value objects gone here id owns =
     elim (Contains-push_cases values value (Own id) owns) [ inl before ↦ gone id before | inr is ↦ here id is ]
 
--- the same with the value in the next index
+-- the same with the value at the next index
 pub AreGone-next : (values : List Value) (index : ℕ) (objects : Objects) → index < length values → AreGone (take index values) objects → ((id : ObjectId) → slice_get values index ≡ Some (Own id) → get objects id ≡ None) → AreGone (take (index + 1) values) objects
 AreGone-next values index objects low gone here =
     let there : slice_get values index ≡ Some (get_or values index Nil) = slice_get-get_or values index Nil low in
