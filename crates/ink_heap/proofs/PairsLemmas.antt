@@ -124,7 +124,7 @@ len-apart (pair ∷ pairs) apart =
 abbrev pub view_of : Pairs → ℕ → HeapView
 view_of pairs room = record { objects = from_entries {R = id_cmp} pairs; spare = room }
 
--- the pair that was read at a index, where its name is the one that is looked for
+-- the pair that was read at an index, where its name is the one that is looked for
 pub HoldsName-read : (pairs : Pairs) (index : ℕ) (id : ObjectId) (pair : ObjectId × Object) → AreApart pairs → pair ≡ get_or pairs index pair → index < length pairs → (test : Bool) → test ≡ is_same id pair.0 → test ≡ true → HoldsName pairs index id
 HoldsName-read pairs index id pair apart is low test s t =
     let x : id ≡ pair.0 = is_same-one id pair.0 (sym s ∙ t) in

@@ -21,7 +21,7 @@ use Rattle.ink_heap.specs.View.{HeapView}
 use Rattle.ink_heap.proofs.ObjectsLemmas.{is_same, is_same-itself, is_same-one}
 use Rattle.ink_heap.proofs.PairsLemmas.{find_at}
 use Rattle.ink_parcel.specs.Parts.{IsSplit, Splits, HoldsTree}
-use Rattle.ink_parcel.specs.Moves.{CanBePut, SplitsOff, Moves, AreGone, fields_at, HaveBeenLookedAt}
+use Rattle.ink_parcel.specs.Moves.{SplitsOff, Moves, AreGone, fields_at, HaveBeenLookedAt}
 
 -- the first of two that is there
 abbrev pub first_some : Option Object → Option Object → Option Object
@@ -302,7 +302,7 @@ pub AreGone-push : (values : List Value) (value : Value) (objects : Objects) →
 AreGone-push values value objects gone here id owns =
     elim (Contains-push_cases values value (Own id) owns) [ inl before ↦ gone id before | inr is ↦ here id is ]
 
--- the same with the value in the next index
+-- the same with the value at the next index
 pub AreGone-next : (values : List Value) (index : ℕ) (objects : Objects) → index < length values → AreGone (take index values) objects → ((id : ObjectId) → slice_get values index ≡ Some (Own id) → get objects id ≡ None) → AreGone (take (index + 1) values) objects
 AreGone-next values index objects low gone here =
     let there : slice_get values index ≡ Some (get_or values index Nil) = slice_get-get_or values index Nil low in
@@ -341,11 +341,3 @@ IsSplit-whole one other rest (Some object) s t = s.1 ∙ sym t.1
 pub SplitsOff-whole : (one other rest : Objects) (pairs : Pairs) → SplitsOff one rest pairs → SplitsOff other rest pairs → one ≡ other
 SplitsOff-whole one other rest pairs s t =
     same_map id_cmp_total id_cmp_exact one other (λ id. IsSplit-whole (get one id) (get other id) (get rest id) (find id_cmp id pairs) (s id) (t id))
-
--- the objects that were moved can be put back
-pub CanBePut-moved : {names : ObjectId → Type 0} {before after : HeapView} {has : Pairs} → Moves names before after [] has → CanBePut after.objects has
-CanBePut-moved {before = before} {after = after} {has = has} m = (
-  AreApart-moved m,
-  λ id there.
-      split_absent (get before.objects id) (get after.objects id) (find id_cmp id has) (SplitsOff-moved m id) there,
-)

@@ -88,11 +88,6 @@ module _ (objects : Objects) (pairs : Pairs) (id : ObjectId) (object : Object) (
       ∙ put_last (is_same other id) object (find id_cmp other pairs) (get objects other)
       ∙ ap (λ found. first_some found (get objects other)) (sym (find_last other))
 
--- where all were put
-pub SplitsOff-put : (whole objects : Objects) (pairs : Pairs) → CanBePut objects pairs → ((id : ObjectId) → get whole id ≡ whole_of objects pairs id) → SplitsOff whole objects pairs
-SplitsOff-put whole objects pairs can is id =
-    split_whole (get whole id) (get objects id) (find id_cmp id pairs) (is id) (can.1 id)
-
 -- the same of the map of the pairs
 pub Splits-put : (whole objects : Objects) (pairs : Pairs) → SplitsOff whole objects pairs → Splits whole objects (from_entries pairs)
 Splits-put whole objects pairs split id =

@@ -170,7 +170,7 @@ GoesOn-then {before = before} {middle = middle} {after = after} {had = had} xs y
       ∙ ap (walk (rest ++ fields_of (m.more ++ n.more)) after.objects) (sym (with_pairs-append taken m.more n.more));
 }
 
--- over one more, in the next index
+-- over one more, at the next index
 pub GoesOn-next : {before middle after : HeapView} {had then has : Pairs} (values : List Value) (index : ℕ) (value : Value) → slice_get values index ≡ Some value → GoesOn (take index values) before middle had then → GoesOn (value ∷ []) middle after then has → GoesOn (take (index + 1) values) before after had has
 GoesOn-next {before = before} {after = after} {had = had} {has = has} values index value at m n =
     let low : index < length values = slice_get_within values index value at in
@@ -204,7 +204,7 @@ IsWrong-then {before = before} {middle = middle} all xs behind y is m wrong rest
     ∙ ap (λ values. walk values middle.objects (with_pairs taken m.more)) (append_assoc (y ∷ behind) rest (fields_of m.more))
     ∙ wrong (behind ++ (rest ++ fields_of m.more)) (with_pairs taken m.more)
 
--- a fault at the value in this index is one of the walk over all
+-- a fault at the value of this index is one of the walk over all
 pub Fails-at : {before middle : HeapView} {had then : Pairs} (why : MoveFault) (values : List Value) (index : ℕ) (value : Value) → slice_get values index ≡ Some value → GoesOn (take index values) before middle had then → Fails why (value ∷ []) middle → Fails why values before
 Fails-at move.OutOfMemory values index value at m walks = tt
 Fails-at move.Absent values index value at m walks =

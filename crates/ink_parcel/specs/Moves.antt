@@ -30,7 +30,7 @@ pub record Moves (names : ObjectId → Type 0) (before after : HeapView) (had ha
 abbrev pub AreGone : List Value → Objects → Type 0
 AreGone values objects = (id : ObjectId) → Contains values (Own id) → get objects id ≡ None
 
--- the fields of the object in this index
+-- the fields of the object at this index
 abbrev pub fields_at : Pairs → ℕ → List Value
 fields_at pairs index = option_map_or (λ pair. pair.1.fields) (slice_get pairs index) []
 
@@ -38,7 +38,7 @@ fields_at pairs index = option_map_or (λ pair. pair.1.fields) (slice_get pairs 
 abbrev pub HaveBeenLookedAt : Pairs → ℕ → Objects → Type 0
 HaveBeenLookedAt pairs count objects = (index : ℕ) → index < count → AreGone (fields_at pairs index) objects
 
--- the object that the value in this index owns; none where it is another value, or past the end
+-- the object that the value at this index owns; none where it is another value, or past the end
 abbrev pub OwnedAt : Option ObjectId → List Value → ℕ → Type 0
 OwnedAt None values index = (id : ObjectId) → slice_get values index ≢ Some (Own id)
 OwnedAt (Some id) values index = slice_get values index ≡ Some (Own id)

@@ -19,7 +19,7 @@ front-last xs index x end is =
     let whole : take (index + 1) xs ≡ xs = take_all (index + 1) xs (omega arith) in
     ap reverse (sym whole ∙ split) ∙ front-push (take index xs) (get_or xs index x) ∙ ap (λ y. y ∷ reverse (take index xs)) (sym is)
 
--- another one in the last index stands in front
+-- another one at the last index stands in front
 pub front-set : {X : Type 0} (xs : List X) (index : ℕ) (y : X) → index + 1 ≡ length xs → reverse (set xs index y) ≡ y ∷ reverse (take index xs)
 front-set xs index y end =
     let whole : take (index + 1) (set xs index y) ≡ set xs index y = take_all (index + 1) (set xs index y) (omega (arith, length-set xs index y)) in

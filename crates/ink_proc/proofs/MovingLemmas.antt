@@ -1,5 +1,5 @@
 -- One more value is moved out of registers, or into them.
-use Rattle.std.proofs.Common.{◌≡◌, ◌≢◌, ℕ, suc, ◌+◌, ◌-◌, ◌<◌, ◌≤◌, Option, None, Some, Result, Ok, Err, List, [], ◌∷◌, ◌++◌, length, get_or, set, drop, take, replicate, refl, sym, ap, ◌∙◌, arith, add-one, append_assoc, append-nil, length-append}
+use Rattle.std.proofs.Common.{◌≡◌, ◌≢◌, ℕ, suc, ◌+◌, ◌-◌, ◌<◌, Option, None, Some, Result, Ok, Err, List, [], ◌∷◌, ◌++◌, length, get_or, set, drop, take, replicate, refl, sym, ap, ◌∙◌, arith, add-one, append_assoc, length-append}
 use Rattle.std.specs.List.{slice_get}
 use Rattle.std.proofs.Math.Seq.{drop-cons}
 use Rattle.std.proofs.lemmas.Grind.{take_at_read}
@@ -37,18 +37,12 @@ moved_more values numbers index registers value low goes =
     ∙ behind_first values value _
     ∙ ap (λ next. behind (values ++ value ∷ []) (moved (drop next numbers) (set registers (get_or numbers index 0) Empty))) (sym (add-one index))
 
--- one more empty index leaves one less to come
+-- one more empty value leaves one less to come
 pub padded_next : (most : ℕ) (values : List Value) → length values < most → padded most (values ++ Empty ∷ []) ≡ padded most values
 padded_next most values low =
     let rest : ℕ = most - length (values ++ Empty ∷ []) in
     let less : most - length values ≡ suc rest = omega (arith, length-append values (Empty ∷ [])) in
     append_assoc values (Empty ∷ []) (replicate rest Empty) ∙ ap (λ count. values ++ replicate count Empty) (sym less)
-
--- where there are so many, no empty index comes
-pub padded_all : (most : ℕ) (values : List Value) → most ≤ length values → padded most values ≡ values
-padded_all most values enough =
-    let none : most - length values ≡ 0 = omega arith in
-    ap (λ count. values ++ replicate count Empty) none ∙ append-nil values
 
 wrong_absent : (had : Option Value) → where_there {A = List Value} had (Err wrong.Absent) ≡ Err wrong.Absent
 wrong_absent None = refl
@@ -91,11 +85,6 @@ pub given_more : (numbers : List ℕ) (values registers left : List Value) (inde
 given_more numbers values registers left index value low had put =
     next_of numbers values registers index value low had
     ∙ goes_on (slice_get registers (get_or numbers index 0)) (set registers (get_or numbers index 0) value) left (λ there. given_out (drop (index + 1) numbers) (drop (index + 1) (set values index Empty)) there) put
-
-pub given_stops : (numbers : List ℕ) (values registers : List Value) (index : ℕ) (value : Value) (why : Wrong) → index < length numbers → slice_get values index ≡ Some value → given_out (get_or numbers index 0 ∷ []) (value ∷ []) registers ≡ Err why → given_out (drop index numbers) (drop index values) registers ≡ Err why
-given_stops numbers values registers index value why low had put =
-    next_of numbers values registers index value low had
-    ∙ stops (slice_get registers (get_or numbers index 0)) (set registers (get_or numbers index 0) value) why _ put
 
 -- values in the registers that they were moved out of, the first one put last
 abbrev pub restored : List ℕ → List Value → List Value → List Value
