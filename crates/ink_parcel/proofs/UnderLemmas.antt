@@ -122,9 +122,9 @@ same_fields None = refl
 same_fields (Some object) = refl
 
 -- it is another, and those that its fields own are put on the stack
-pub met_from-on : (most less : ℕ) (id next : ObjectId) (objects : Objects) (stack rest more : List ObjectId) → most ≡ suc less → stack ≡ rest ++ next ∷ [] → is_same next id ≡ false → more ≡ rest ++ reverse (owners (base.fields_of_found objects next)) → met_from most id objects stack ≡ met_from less id objects more
+pub met_from-on : (most less : ℕ) (id next : ObjectId) (objects : Objects) (stack rest more : List ObjectId) → most ≡ suc less → stack ≡ rest ++ next ∷ [] → is_same next id ≡ false → more ≡ rest ++ reverse (owners (base.fields_in objects next)) → met_from most id objects stack ≡ met_from less id objects more
 met_from-on most less id next objects stack rest more one is other put =
-    let fields = base.fields_of_found objects next in
+    let fields = base.fields_in objects next in
     let turned : reverse more ≡ owners fields ++ reverse rest =
     ap reverse put
     ∙ reverse-append rest (reverse (owners fields))
@@ -162,12 +162,12 @@ read_found None index = refl
 read_found (Some object) index = refl
 
 -- what stands in a field of an object
-pub field_read : (objects : Objects) (id : ObjectId) (index : ℕ) → option_and_then (λ object. slice_get object.fields index) (get objects id) ≡ slice_get (base.fields_of_found objects id) index
+pub field_read : (objects : Objects) (id : ObjectId) (index : ℕ) → option_and_then (λ object. slice_get object.fields index) (get objects id) ≡ slice_get (base.fields_in objects id) index
 field_read objects id index = read_found (get objects id) index
 
-pub field_there : (objects : Objects) (id : ObjectId) (index : ℕ) → None ≡ option_and_then (λ object. slice_get object.fields index) (get objects id) → index < length (base.fields_of_found objects id) → ⊥
+pub field_there : (objects : Objects) (id : ObjectId) (index : ℕ) → None ≡ option_and_then (λ object. slice_get object.fields index) (get objects id) → index < length (base.fields_in objects id) → ⊥
 field_there objects id index is low =
-    let fields = base.fields_of_found objects id in
+    let fields = base.fields_in objects id in
     none-some (get_or fields index v.Nil) (is ∙ field_read objects id index ∙ slice_get-get_or fields index v.Nil low)
 
 -- a stack from which one was taken was not empty
