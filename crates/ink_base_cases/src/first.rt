@@ -1,0 +1,90 @@
+//! Modules that are lists of tokens, and the texts that those of the first form print.
+
+use ink_base::{Text, Token, TokenKind};
+use ink_first::first_form;
+use std::alloc::{AllocError, Global};
+
+/// A source that is made of its tokens.
+#[derive(Drop)]
+struct Module {
+    source: Vec<u8>,
+    tokens: Vec<Token>,
+}
+
+/// Each module, whose lines are its tokens and end with one that tells what it is, and the texts that it prints.
+pub fn told(alloc: Global, lines: &str) -> Result<String, AllocError> {
+    let mut told = String::from_str(alloc, "MODULES OF THE FIRST FORM\n")?;
+    let mut module = no_module(alloc);
+    for line in lines.lines() {
+        match line.strip_prefix("= ") {
+            None => add_line(&mut module, line)?,
+            Some(label) => {
+                let answer = texts(alloc, &module)?;
+                told.push_str(&format!(in alloc; "{label}: {answer}\n")?)?;
+                module = no_module(alloc);
+            }
+        }
+    }
+    Ok(told)
+}
+
+fn no_module(alloc: Global) -> Module {
+    Module {
+        source: Vec::new(alloc),
+        tokens: Vec::new(alloc),
+    }
+}
+
+/// Adds the tokens of a line, which are of one kind, or the one token of a line that begins with a bar, with its blanks.
+fn add_line(module: &mut Module, line: &str) -> Result<(), AllocError> {
+    let (kind, texts) = line.split_once(' ').unwrap_or((line, ""));
+    let Some(kind) = kind_of(kind) else {
+        return Ok(());
+    };
+    if let Some(text) = texts.strip_prefix('|') {
+        return add(module, kind, text);
+    }
+    for text in texts.split_whitespace() {
+        add(module, kind, text)?;
+    }
+    Ok(())
+}
+
+/// Adds a token behind the others.
+fn add(module: &mut Module, kind: TokenKind, text: &str) -> Result<(), AllocError> {
+    let start = module.source.len().min(u32::MAX as usize) as u32;
+    module.source.extend_from_slice(text.as_bytes())?;
+    let end = module.source.len().min(u32::MAX as usize) as u32;
+    module.tokens.push(Token {
+        kind,
+        start,
+        end,
+        new_line: false,
+    })?;
+    Ok(())
+}
+
+fn kind_of(name: &str) -> Option<TokenKind> {
+    match name {
+        "name" => Some(TokenKind::Name),
+        "const" => Some(TokenKind::Const),
+        "symbol" => Some(TokenKind::Symbol),
+        "keyword" => Some(TokenKind::Keyword),
+        "quote" => Some(TokenKind::Quote),
+        "part" => Some(TokenKind::Part),
+        _ => None,
+    }
+}
+
+/// The texts that the module prints, each between bars.
+fn texts(alloc: Global, module: &Module) -> Result<String, AllocError> {
+    let Some(texts) = first_form(alloc, &module.source, &module.tokens)? else {
+        return String::from_str(alloc, "of another form");
+    };
+    let mut told = format!(in alloc; "{} texts", texts.len())?;
+    for text in &texts {
+        let text = String::from_utf8_lossy(alloc, text.bytes())?;
+        told.push_str(&format!(in alloc; " |{text}|")?)?;
+    }
+    Ok(told)
+}
