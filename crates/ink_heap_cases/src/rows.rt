@@ -5,7 +5,7 @@ use crate::values::{name_of, values_of};
 use crate::written::{plain, value_text, wrong_text};
 use ink_base::{Kind, Limits, Value};
 use ink_code::row_numbers::FIRST_OF_ARRAY;
-use ink_prims::PrimTable;
+use ink_prims::number_of;
 use ink_rows::{Computed, RowFault, value_row};
 use std::alloc::{AllocError, Global};
 
@@ -47,9 +47,8 @@ fn row_text(
 
 /// What the row comes to that a line names.
 pub fn row_answer(alloc: Global, limits: &Limits, line: &str) -> Result<String, AllocError> {
-    let table = PrimTable::<48>::table();
     let name = name_of(line, 1);
-    match table.find(name.as_bytes(), kind_of(name_of(line, 0))) {
+    match number_of(name.as_bytes(), kind_of(name_of(line, 0))) {
         None => plain(alloc, "no such method"),
         Some(row) => row_text(alloc, limits, row, values_of(alloc, line, 2)?.as_slice()),
     }

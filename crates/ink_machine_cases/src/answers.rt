@@ -12,7 +12,7 @@ use ink_parcel::{Parcel, cut};
 use std::alloc::{AllocError, Global};
 
 /// Why there is no reply.
-#[derive(Clone, Copy, Debug, PartialEq, Eq)]
+#[derive(Clone, Copy)]
 pub enum NoReply {
     /// The words are none, or a value of theirs owns an object.
     NotUnderstood,

@@ -24,7 +24,7 @@ const TYPES: [&str; 11] = [
 const MOST: usize = 4_294_967_295;
 
 /// What is wrong with a line.
-#[derive(Clone, Copy, Debug, PartialEq, Eq)]
+#[derive(Clone, Copy)]
 pub enum BadLine {
     Constant,
     Impl,
@@ -62,14 +62,14 @@ impl<T: Drop> From<AllocFailed<T>> for BadLine {
 }
 
 /// Which line of a code is wrong, counted from 1, and in which way.
-#[derive(Clone, Copy, Debug, PartialEq, Eq)]
+#[derive(Clone, Copy)]
 pub struct AssemblyFault {
     pub line: u64,
     pub why: BadLine,
 }
 
 /// A method to which instructions are added.
-#[derive(Debug, Drop)]
+#[derive(Drop)]
 struct Draft {
     name: Text,
     registers: u32,
@@ -77,7 +77,7 @@ struct Draft {
 }
 
 /// The parts of a code, as far as it was read.
-#[derive(Debug, Drop)]
+#[derive(Drop)]
 struct Parts {
     constants: Vec<Value>,
     types: Vec<Text>,

@@ -39,7 +39,7 @@ fn started(alloc: Global, number: u32) -> Result<Proc, AllocError> {
 }
 
 /// A process, with what it runs and within which limits.
-#[derive(Debug, Drop)]
+#[derive(Drop)]
 pub struct Bench {
     code: Code,
     limits: Limits,

@@ -7,7 +7,7 @@ use std::alloc::Global;
 use std::io;
 
 /// A case, as far as it was read: the lines of its code, and behind these the process.
-#[derive(Debug, Drop)]
+#[derive(Drop)]
 pub struct Case {
     code: String,
     bench: Option<Bench>,
