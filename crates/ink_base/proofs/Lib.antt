@@ -1,6 +1,4 @@
-pub mod Appended
 pub mod Examples
 pub mod IdentLemmas
 pub mod LimitLemmas
 pub mod SliceLemmas
-pub mod StoredLemmas

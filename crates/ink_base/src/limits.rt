@@ -8,7 +8,7 @@ ghost use Rattle.ink_base.specs.Limits.{index_of, greatest_of, option_word, pani
 use std::marker::Model;
 
 /// The limits, in the order in which their numbers stand.
-#[derive(Clone, Copy, Debug)]
+#[derive(Clone, Copy)]
 pub enum Limit {
     /// The bytes of a source.
     Source,
@@ -173,7 +173,7 @@ impl Limit {
 }
 
 /// A number is out of this limit's range.
-#[derive(Clone, Copy, Debug)]
+#[derive(Clone, Copy)]
 pub struct BadLimit(pub Limit);
 
 /// A number for each limit, in its range. A contract sees the list of the numbers in the limits' order.

@@ -9,7 +9,7 @@ use std::fmt;
 /// A place in a source: one byte of it, and the line and the column of that byte.
 ///
 /// Line and column count from 1, the column in bytes. `byte` counts from 0.
-#[derive(Clone, Copy, Debug)]
+#[derive(Clone, Copy)]
 pub struct Place {
     pub line: u32,
     pub column: u32,
@@ -28,7 +28,7 @@ impl Place {
 /// The rules that a source can break.
 ///
 /// Each has a code of two digits, which stands in its text behind an `E`.
-#[derive(Clone, Copy, Debug)]
+#[derive(Clone, Copy)]
 pub enum Rule {
     /// The source isn't UTF-8.
     NotUtf8,
@@ -188,7 +188,7 @@ impl fmt::Display for Rule {
 }
 
 /// Why a source is refused: the rule, its place, and for some rules a detail.
-#[derive(Debug, Drop)]
+#[derive(Drop)]
 pub struct Refusal {
     pub rule: Rule,
     pub place: Place,

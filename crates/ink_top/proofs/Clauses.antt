@@ -3,9 +3,9 @@ use Rattle.std.proofs.Common.{◌≡◌, ℕ, ◌+◌, ◌<◌, ◌≤◌, ◌�
 use Rattle.std.proofs.lemmas.List.{take-take}
 use Rattle.std.proofs.Math.Nat.{eq-or-lt_of_le}
 use Rattle.std.proofs.lemmas.Bool.{cases_order}
-use Rattle.ink_base.specs.Outside.{Directory, Reads}
+use Rattle.ink_devices.specs.Outside.{Directory, Reads}
 use Rattle.ink_base.specs.declared.token.Token.{Token}
-use Rattle.ink_base.specs.declared.faults.Faults.{Faults}
+use Rattle.ink_devices.specs.declared.faults.Faults.{Faults}
 use Rattle.ink_base.specs.declared.refusal.Refusal.{Refusal}
 use Rattle.ink_words.specs.declared.command.Command.{Command}
 use Rattle.ink_words.specs.declared.command.Command.TheVariants as command

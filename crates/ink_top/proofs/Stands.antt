@@ -1,8 +1,8 @@
 -- A run between two events: what is left to print, and that the journal's replay wrote what the sink got.
 use Rattle.std.proofs.Common.{◌+◌, suc, length, drop, get_or, drop-cons, add-one, ◌≡◌, ℕ, ◌<◌, List, [], ◌∷◌, ◌++◌, Option, None, Some, Err, refl, sym, ap, ◌∙◌, append_assoc, append-nil, take, subst}
 use Rattle.std.specs.Option.{option_and_then}
-use Rattle.ink_base.specs.Outside.{appended, CutsWrite}
-use Rattle.ink_base.proofs.Appended.{appended-appended}
+use Rattle.ink_devices.specs.Outside.{appended, CutsWrite}
+use Rattle.ink_devices.proofs.Appended.{appended-appended}
 use Rattle.ink_top.specs.World.{Program, World, replay, turns, turn, opening_world, IsQuiet, line_of}
 use Rattle.ink_top.specs.Runs.{SinkState, Gets, Prints, Replays, ReplaysCut, Runs}
 use Rattle.ink_top.specs.declared.run.RunFault.{RunFault}

@@ -2,8 +2,8 @@
 use Rattle.std.specs.Prelude.{◌≡◌, ℕ, ◌+◌, ◌<◌, ◌⊎◌, List, [], Option, Some}
 use Rattle.ink_base.specs.Limits.{limit_of}
 use Rattle.ink_base.specs.declared.limits.Limit.TheVariants.{Source}
-use Rattle.ink_base.specs.Outside.{Directory, Reads, CountsFault, CutsWrite}
-use Rattle.ink_base.specs.declared.faults.Faults.{Faults}
+use Rattle.ink_devices.specs.Outside.{Directory, Reads, CountsFault, CutsWrite}
+use Rattle.ink_devices.specs.declared.faults.Faults.{Faults}
 use Rattle.ink_words.specs.declared.command.Command.{Command}
 use Rattle.ink_words.specs.declared.command.Command.TheVariants as command
 use Rattle.ink_words.specs.Commands.{Word, Asked, IsOrder, IsWrongWord}

@@ -1,8 +1,8 @@
 -- The clauses of the top call.
 use Rattle.std.specs.Prelude.{◌≡◌, ℕ, ◌<◌, ◌⊎◌, ⊤, List, [], take, Option, None, Some, option_map}
-use Rattle.ink_base.specs.Outside.{Directory, Reads}
+use Rattle.ink_devices.specs.Outside.{Directory, Reads}
 use Rattle.ink_base.specs.declared.token.Token.{Token}
-use Rattle.ink_base.specs.declared.faults.Faults.{Faults}
+use Rattle.ink_devices.specs.declared.faults.Faults.{Faults}
 use Rattle.ink_base.specs.declared.refusal.Refusal.{Refusal}
 use Rattle.ink_words.specs.declared.command.Command.{Command}
 use Rattle.ink_words.specs.declared.command.Command.TheVariants as command

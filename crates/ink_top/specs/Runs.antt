@@ -1,5 +1,5 @@
 use Rattle.std.specs.Prelude.{◌≡◌, ℕ, ◌<◌, List, [], ◌∷◌, ◌++◌, Option, Some, Result, Ok, Err}
-use Rattle.ink_base.specs.Outside.{appended, CutsWrite}
+use Rattle.ink_devices.specs.Outside.{appended, CutsWrite}
 use Rattle.ink_top.specs.World.{Program, World, replay, IsQuiet, IsCut, line_of}
 use Rattle.ink_top.specs.declared.run.RunFault.{RunFault}
 use Rattle.ink_top.specs.declared.run.RunFault.TheVariants as fault

@@ -1,6 +1,6 @@
 //! The call of the program: words, the source, the run or the print, and what is told of the cause.
 ghost use Rattle.std.specs.Prelude.{◌≡◌, ◌<◌, ◌≤◌, [], IfOk, OnOk, IfErr};
-ghost use Rattle.ink_base.specs.Outside.{greatest_count, Reads};
+ghost use Rattle.ink_devices.specs.Outside.{greatest_count, Reads};
 ghost use Rattle.ink_words.specs.declared.command.Command.TheVariants.{Run, Print};
 ghost use Rattle.ink_words.specs.Commands.{asked, asked_by};
 ghost use Rattle.ink_top.specs.Calls.{most_read, IsUnread, IsToldLast, Did, Performed, PrintedSource, RanSource, Tells};

@@ -1,6 +1,6 @@
 //! A run of a module of the first form: one process, which takes its message and prints its texts.
 ghost use Rattle.std.specs.Prelude.{◌≡◌, ◌<◌, [], IfOk};
-ghost use Rattle.ink_base.specs.Outside.{greatest_count};
+ghost use Rattle.ink_devices.specs.Outside.{greatest_count};
 ghost use Rattle.ink_top.specs.Runs.{Prints, Runs, state_of};
 ghost use Rattle.ink_top.specs.World.{line_of};
 ghost use Rattle.ink_top.specs.declared.run.RunFault.TheVariants.{SinkFailed, OutOfMemory};

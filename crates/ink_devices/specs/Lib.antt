@@ -1,0 +1,5 @@
+pub mod Host
+pub mod Memory
+pub mod Outside
+pub mod Stored
+pub mod Sure
