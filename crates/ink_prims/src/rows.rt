@@ -42,7 +42,7 @@ macro_rules! row {
 }
 
 /// Every row, by number.
-pub const ROWS: [Row; 48] = [
+pub static ROWS: [Row; 48] = [
     row!(Int Read "+" (Int) Int),
     row!(Int Read "-" (Int) Int),
     row!(Int Read "*" (Int) Int),
