@@ -1,7 +1,7 @@
 -- The walk by which an ownership cycle is found stays in the tree of the value.
 use Rattle.std.proofs.Common.{◌≡◌, ℕ, zero, suc, Bool, true, false, if◌then◌else◌, Option, None, Some, List, [], ◌∷◌, ◌++◌, refl, ap, subst, inl, inr, arith}
 use Rattle.std.specs.Prelude.{Contains}
-use Rattle.std.specs.FinMap.{get, len}
+use Rattle.std.specs.FinMap.{len}
 use Rattle.std.specs.declared.cmp.Ordering.{Ordering}
 use Rattle.std.specs.declared.cmp.Ordering.TheVariants.{Less, Equal, Greater}
 use Rattle.std.specs.Ordering.{is_eq}
@@ -12,12 +12,8 @@ use Rattle.ink_base.specs.declared.value.Value.TheVariants as v
 use Rattle.ink_base.specs.Ident.{id_cmp}
 use Rattle.ink_base.specs.Tree.{InTree, owned, below}
 use Rattle.ink_base.proofs.IdentLemmas.{id_cmp_exact}
-use Rattle.ink_base.specs.Objects.{Objects}
-use Rattle.ink_code.specs.Trees.{first_owned, fields_of_found, meets_first, meets, is_under}
-
--- the values in the fields of an object, and none of one that isn't there
-abbrev pub fields_of : Objects → ObjectId → List Value
-fields_of objects id = fields_of_found (get objects id)
+use Rattle.ink_base.specs.Objects.{Objects, fields_in}
+use Rattle.ink_code.specs.Trees.{first_owned, meets_first, meets, is_under}
 
 behind : (value : Value) (values : List Value) (x : Value) → Contains values x → Contains (value ∷ values) x
 behind value values x h = Contains-append_right (value ∷ []) values x h
@@ -65,9 +61,9 @@ in_wider fields values more id wider (owned object h) = wider object h
 in_wider fields values more id wider (below above object t h) = below above object (in_wider fields values more above wider t) h
 
 -- what the values behind the first owner and the fields of its object own is in the tree of the values
-wider_after : (objects : Objects) (values : List Value) (first : ObjectId) (rest : List Value) → IsFirst values first rest → (x : ObjectId) → Contains (fields_of objects first ++ rest) (v.Own x) → InTree (fields_of objects) values x
+wider_after : (objects : Objects) (values : List Value) (first : ObjectId) (rest : List Value) → IsFirst values first rest → (x : ObjectId) → Contains (fields_in objects first ++ rest) (v.Own x) → InTree (fields_in objects) values x
 wider_after objects values first rest (here, all) x h =
-    elim (Contains-append_cases (fields_of objects first) rest (v.Own x) h) [
+    elim (Contains-append_cases (fields_in objects first) rest (v.Own x) h) [
       | inl in_fields ↦ below first x (owned first here) in_fields
       | inr in_rest ↦ owned x (all (v.Own x) in_rest)
     ]
@@ -78,26 +74,26 @@ equal_of Equal e = refl
 equal_of Greater e = cc
 
 -- the walk goes on behind an owner
-met_on : (objects : Objects) (values : List Value) (id first : ObjectId) (rest : List Value) (further : List Value → Bool) (same : Bool) → is_eq (id_cmp first id) ≡ same → IsFirst values first rest → ((more : List Value) → further more ≡ true → InTree (fields_of objects) more id) → (if same then true else further (fields_of objects first ++ rest)) ≡ true → InTree (fields_of objects) values id
+met_on : (objects : Objects) (values : List Value) (id first : ObjectId) (rest : List Value) (further : List Value → Bool) (same : Bool) → is_eq (id_cmp first id) ≡ same → IsFirst values first rest → ((more : List Value) → further more ≡ true → InTree (fields_in objects) more id) → (if same then true else further (fields_in objects first ++ rest)) ≡ true → InTree (fields_in objects) values id
 met_on objects values id first rest further true e is_first sound h =
     let one : first ≡ id = id_cmp_exact first id (equal_of _ e) in
-    subst (λ (n : ObjectId). InTree (fields_of objects) values n) one (owned first is_first.0)
+    subst (λ (n : ObjectId). InTree (fields_in objects) values n) one (owned first is_first.0)
 met_on objects values id first rest further false e is_first sound h =
-    in_wider (fields_of objects) values (fields_of objects first ++ rest) id (wider_after objects values first rest is_first) (sound _ h)
+    in_wider (fields_in objects) values (fields_in objects first ++ rest) id (wider_after objects values first rest is_first) (sound _ h)
 
-met_first : (objects : Objects) (values : List Value) (id : ObjectId) (further : List Value → Bool) (found : Option (ObjectId × List Value)) → first_owned values ≡ found → ((more : List Value) → further more ≡ true → InTree (fields_of objects) more id) → meets_first id found objects further ≡ true → InTree (fields_of objects) values id
+met_first : (objects : Objects) (values : List Value) (id : ObjectId) (further : List Value → Bool) (found : Option (ObjectId × List Value)) → first_owned values ≡ found → ((more : List Value) → further more ≡ true → InTree (fields_in objects) more id) → meets_first id found objects further ≡ true → InTree (fields_in objects) values id
 met_first objects values id further None e sound h = cc
 met_first objects values id further (Some (first, rest)) e sound h =
     met_on objects values id first rest further (is_eq (id_cmp first id)) refl (first_is_first values first rest e) sound h
 
 -- where a walk down some values comes to an object, it is in their tree
-pub meets_in_tree : (most : ℕ) (id : ObjectId) (values : List Value) (objects : Objects) → meets most id values objects ≡ true → InTree (fields_of objects) values id
+pub meets_in_tree : (most : ℕ) (id : ObjectId) (values : List Value) (objects : Objects) → meets most id values objects ≡ true → InTree (fields_in objects) values id
 unfolding meets
 meets_in_tree zero id values objects h = cc
 meets_in_tree (suc most) id values objects h =
     met_first objects values id (λ more. meets most id more objects) (first_owned values) refl (λ more. meets_in_tree most id more objects) h
 
 -- so a panic at an ownership cycle tells the truth
-pub is_under_in_tree : (id : ObjectId) (value : Value) (objects : Objects) → is_under id value objects ≡ true → InTree (fields_of objects) (value ∷ []) id
+pub is_under_in_tree : (id : ObjectId) (value : Value) (objects : Objects) → is_under id value objects ≡ true → InTree (fields_in objects) (value ∷ []) id
 unfolding is_under
 is_under_in_tree id value objects h = meets_in_tree (len objects) id (value ∷ []) objects h

@@ -12,6 +12,7 @@ pub mod Makes
 pub mod Moves
 pub mod Objects
 pub mod OptionRows
+pub mod Owned
 pub mod Prims
 pub mod Process
 pub mod Readings

@@ -24,9 +24,17 @@ pub record Process : Type 0 where
 abbrev pub next_id : Process → ObjectId
 next_id p = record { process = p.number; serial = p.made + 1 }
 
--- the name of a process's state
+-- the name of the state of a process of that number: it is the first object that the process makes
+abbrev pub state_name : ℕ → ObjectId
+state_name number = record { process = number; serial = 1 }
+
 abbrev pub state_id : Process → ObjectId
-state_id p = record { process = p.number; serial = 1 }
+state_id p = state_name p.number
+
+-- a process of a type that made its state alone, and waits for its first message
+abbrev pub started : ℕ → ℕ → Objects → Process
+started number kind objects =
+    record { number = number; kind = kind; made = 1; frames = []; objects = objects; pending = []; ran = 0 }
 
 -- a value that is there
 abbrev pub held : Option Value → Result Value Wrong

@@ -162,11 +162,11 @@ unfoldable pub rounds : Code → List ℕ → ℕ → RoundState
 rounds code limits zero = first_state code
 rounds code limits (suc made) = round code limits (rounds code limits made)
 
-abbrev pub is_ready : Status → Bool
-is_ready Ready = true
-is_ready Idle = false
-is_ready (Held future) = false
-is_ready Stopped = false
+abbrev pub is_to_run : Status → Bool
+is_to_run Ready = true
+is_to_run Idle = false
+is_to_run (Held future) = false
+is_to_run Stopped = false
 
 -- how a process with a status stands where the run ends
 abbrev pub standing_of : Status → Standing
@@ -183,4 +183,4 @@ end_found None false made state = end_of None Rests false (map standing_of state
 -- the end of a run of so many rounds: that at which it stopped, or the limit of rounds where a process is ready, or that
 -- all of them wait
 abbrev pub end_of_rounds : ℕ → RoundState → Option End
-end_of_rounds made state = end_found state.ended (list_any is_ready state.statuses) made state
+end_of_rounds made state = end_found state.ended (list_any is_to_run state.statuses) made state

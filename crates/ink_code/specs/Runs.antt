@@ -10,7 +10,7 @@ use Rattle.ink_base.specs.Numbered.{numbered, set_numbered}
 use Rattle.ink_code.specs.declared.code.Code.{Code}
 use Rattle.ink_code.specs.declared.wrong.Wrong.{Wrong}
 use Rattle.ink_base.specs.Objects.{Objects}
-use Rattle.ink_code.specs.Process.{Process}
+use Rattle.ink_code.specs.Process.{Process, state_name, started}
 use Rattle.ink_code.specs.Replies.{Reply, Done, Taken, Started, NewPair, Got, answered}
 use Rattle.ink_code.specs.Slice.{steps_on, ComesTo}
 use Rattle.ink_code.specs.Step.{free_step}
@@ -26,24 +26,27 @@ pub record World : Type 0 where
 abbrev pub no_parcel : Parcel
 no_parcel = record { values = []; objects = empty }
 
--- a process as it begins: its state is its first object, and has these fields
+-- the objects of a parcel, and the state of a process with the values of the parcel as its fields
+abbrev pub with_state : ℕ → ℕ → Parcel → Objects
+with_state number kind parcel =
+    insert parcel.objects (state_name number) (record { kind = kind; tag = 0; fields = parcel.values; count = 0 })
+
+-- a process as it begins, with what a parcel brings
 abbrev pub begun : ℕ → ℕ → Parcel → Process
-begun number kind parcel =
-    let state : Objects = insert parcel.objects (record { process = number; serial = 1 }) (record { kind = kind; tag = 0; fields = parcel.values; count = 0 }) in
-    record { number = number; kind = kind; made = 1; frames = []; objects = state; pending = []; ran = 0 }
+begun number kind parcel = started number kind (with_state number kind parcel)
 
 -- a run as it begins: one process of the main type, with the message of the main method
 abbrev pub opening_world : Code → World
 opening_world code =
     record { processes = begun 1 code.main_kind no_parcel ∷ []; shared = opening code.main no_parcel; panic = None }
 
-abbrev pub taken : Option (Message Parcel) → Option Reply
-taken None = None
-taken (Some message) = Some (Taken message.method message.values)
+abbrev pub message_reply : Option (Message Parcel) → Option Reply
+message_reply None = None
+message_reply (Some message) = Some (Taken message.method message.values)
 
-abbrev pub got : Option Parcel → Option Reply
-got None = None
-got (Some parcel) = Some (Got parcel)
+abbrev pub value_reply : Option Parcel → Option Reply
+value_reply None = None
+value_reply (Some parcel) = Some (Got parcel)
 
 abbrev pub held_by : Option (FutureState Parcel) → Option Parcel
 held_by None = None
@@ -51,14 +54,14 @@ held_by (Some state) = value_of state
 
 -- what comes back of an action that a process makes: nothing of a panic, and nothing where there is no message or value
 unfoldable pub reply_of : Action Parcel → ℕ → SharedState Parcel → Option Reply
-reply_of action.Take process shared = taken (front_of shared.mail process)
+reply_of action.Take process shared = message_reply (front_of shared.mail process)
 reply_of (action.Print text) process shared = Some Done
 reply_of (action.Spawn kind parcel) process shared = Some (Started (length shared.mail + 1))
 reply_of (action.Send to method parcel) process shared = Some Done
 reply_of action.NewFuture process shared = Some (NewPair (length shared.futures + 1))
 reply_of (action.SetFuture future parcel) process shared = Some Done
 reply_of (action.BreakFuture future) process shared = Some Done
-reply_of (action.GetFuture future) process shared = got (held_by (numbered shared.futures future))
+reply_of (action.GetFuture future) process shared = value_reply (held_by (numbered shared.futures future))
 reply_of (action.Panic text) process shared = None
 
 abbrev pub where_right : Result Process Wrong → Option Process
@@ -121,21 +124,24 @@ pub data CodeReplay (code : Code) (limits : List ℕ) : List ℕ → World → T
 abbrev pub HasPanicked : World → ℕ → Type 0
 HasPanicked world process = IsSomeAnd world.panic (λ panic. panic.0 ≡ process)
 
--- each of the processes, numbered from the first one on, made so many steps of its own
-abbrev pub AreAhead : Code → List ℕ → (ℕ → ℕ) → ℕ → List Process → List Process → Type 0
-AreAhead code limits steps first [] [] = Unit {0}
-AreAhead code limits steps first [] (q ∷ others) = ⊥
-AreAhead code limits steps first (p ∷ others) [] = ⊥
-AreAhead code limits steps first (p ∷ ps) (q ∷ qs) =
-    (steps_on (steps first) code limits p ≡ Some q) × AreAhead code limits steps (first + 1) ps qs
+-- a process as it stands after steps of its own, none of which comes to an action. They are as many as it counts, since
+-- each action lets it count anew
+abbrev pub IsAhead : Code → List ℕ → Process → Process → Type 0
+IsAhead code limits p q = steps_on q.ran code limits p ≡ Some q
 
--- the run after the turns of a journal and so many further steps of each process, none of which comes to an action; a
--- process that made a panic makes no step
-pub record CodeAhead (code : Code) (limits : List ℕ) (journal : List ℕ) (steps : ℕ → ℕ) (world : World) : Type 0 where
+-- each of the processes is ahead of the one of its number
+abbrev pub AreAhead : Code → List ℕ → List Process → List Process → Type 0
+AreAhead code limits [] [] = Unit {0}
+AreAhead code limits [] (q ∷ others) = ⊥
+AreAhead code limits (p ∷ others) [] = ⊥
+AreAhead code limits (p ∷ ps) (q ∷ qs) = IsAhead code limits p q × AreAhead code limits ps qs
+
+-- the run after the turns of a journal and further steps of each process; a process that made a panic makes none
+pub record CodeAhead (code : Code) (limits : List ℕ) (journal : List ℕ) (world : World) : Type 0 where
   pub turned : World
   pub replay : CodeReplay code limits journal turned
-  pub ahead : AreAhead code limits steps 1 turned.processes world.processes
-  pub stays : (process : ℕ) → HasPanicked turned process → steps process ≡ 0
+  pub ahead : AreAhead code limits turned.processes world.processes
+  pub stays : (process : ℕ) → HasPanicked turned process → numbered world.processes process ≡ numbered turned.processes process
   pub shared : world.shared ≡ turned.shared
   pub panic : world.panic ≡ turned.panic
 
@@ -143,4 +149,4 @@ pub record CodeAhead (code : Code) (limits : List ℕ) (journal : List ℕ) (ste
 -- panic nothing is said: the values that it was to send may be gone
 pub record IsSafe (code : Code) (limits : List ℕ) : Type 0 where
   pub main : IsSome (slice_get code.methods code.main)
-  pub right : (journal : List ℕ) (steps : ℕ → ℕ) (world : World) → CodeAhead code limits journal steps world → (process : ℕ) (p : Process) → numbered world.processes process ≡ Some p → ¬ HasPanicked world process → (why : Wrong) → ¬ (free_step code limits p.pending p ≡ Err why)
+  pub right : (journal : List ℕ) (world : World) → CodeAhead code limits journal world → (process : ℕ) (p : Process) → numbered world.processes process ≡ Some p → ¬ HasPanicked world process → (why : Wrong) → ¬ (free_step code limits p.pending p ≡ Err why)

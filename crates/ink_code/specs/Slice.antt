@@ -51,13 +51,13 @@ wanted (Panics text) p = Some (action.Panic text, p)
 wanted (Spent steps) p = None
 
 -- the action that a step wants, of which a panic is one, and the process as it waits for it
-abbrev pub action_of : Outcome → Option (Action Parcel × Process)
-action_of (Err why) = None
-action_of (Ok (stepped, p)) = wanted stepped p
+abbrev pub wish_of : Outcome → Option (Action Parcel × Process)
+wish_of (Err why) = None
+wish_of (Ok (stepped, p)) = wanted stepped p
 
 -- the action to which a process comes after finitely many steps of its own, and the process as it waits for it
 pub record ComesTo (code : Code) (limits : List ℕ) (p : Process) (wish : Action Parcel) (waiting : Process) : Type 0 where
   pub steps : ℕ
   pub before : Process
   pub goes : steps_on steps code limits p ≡ Some before
-  pub wants : action_of (free_step code limits before.pending before) ≡ Some (wish, waiting)
+  pub wants : wish_of (free_step code limits before.pending before) ≡ Some (wish, waiting)

@@ -9,7 +9,7 @@ use Rattle.ink_base.specs.Ident.{id_cmp}
 use Rattle.ink_base.specs.declared.object.Object.{Object}
 use Rattle.ink_code.specs.declared.wrong.Wrong.{Wrong}
 use Rattle.ink_code.specs.declared.wrong.Wrong.TheVariants as wrong
-use Rattle.ink_base.specs.Objects.{Objects}
+use Rattle.ink_base.specs.Objects.{Objects, fields_in}
 
 -- what goes from one process to another: values, and the objects of their tree
 pub record Parcel : Type 0 where
@@ -58,20 +58,17 @@ put_each ((id, object) ∷ rest) objects = insert (put_each rest objects) id obj
 unfoldable pub joined : Objects → Parcel → Objects
 joined objects parcel = put_each (entries parcel.objects) objects
 
-abbrev pub fields_of_found : Option Object → List Value
-fields_of_found None = []
-fields_of_found (Some object) = object.fields
-
 abbrev pub meets_first : ObjectId → Option (ObjectId × List Value) → Objects → (List Value → Bool) → Bool
 meets_first id None objects further = false
 meets_first id (Some (first, rest)) objects further =
-    if is_eq (id_cmp first id) then true else further (fields_of_found (get objects first) ++ rest)
+    if is_eq (id_cmp first id) then true else further (fields_in objects first ++ rest)
 
 -- whether a walk down the objects that values own comes to that one, in so many steps
 unfoldable pub meets : ℕ → ObjectId → List Value → Objects → Bool
 meets zero id values objects = false
 meets (suc most) id values objects = meets_first id (first_owned values) objects (λ more. meets most id more objects)
 
--- whether an object is in the tree of a value, by a walk of as many steps as there are objects
+-- whether an object is in the tree of a value, by a walk of as many steps as there are objects: where each object is owned
+-- once, it is so exactly where the object is in the tree
 unfoldable pub is_under : ObjectId → Value → Objects → Bool
 is_under id value objects = meets (len objects) id (value ∷ []) objects

@@ -5,7 +5,6 @@ use Rattle.ink_code.specs.declared.wrong.Wrong.{Wrong}
 use Rattle.ink_code.specs.Process.{Process}
 use Rattle.ink_code.specs.Replies as machine
 use Rattle.ink_parcel.specs.Parts.{AreApartFrom}
-use Rattle.ink_parcel.specs.View.{parcel_of}
 use Rattle.ink_interp.specs.declared.reply.Reply.{Reply}
 use Rattle.ink_interp.specs.declared.reply.Reply.TheVariants as reply
 use Rattle.ink_interp.specs.declared.reply.AnswerFault.{AnswerFault}
@@ -14,10 +13,10 @@ use Rattle.ink_interp.specs.declared.reply.AnswerFault.TheVariants as fault
 -- a reply as the code machine is written over it
 abbrev pub told : Reply → machine.Reply
 told reply.Done = machine.Done
-told (reply.Message method parcel) = machine.Taken method (parcel_of parcel)
+told (reply.Message method parcel) = machine.Taken method parcel
 told (reply.Process process) = machine.Started process
 told (reply.NewPair future) = machine.NewPair future
-told (reply.Got parcel) = machine.Got (parcel_of parcel)
+told (reply.Got parcel) = machine.Got parcel
 
 -- no object of the reply has the name of one that is there
 abbrev pub IsApart : Reply → Objects → Type 0

@@ -5,7 +5,6 @@ ghost use Rattle.ink_code.specs.Replies.{after_done, after_got, after_pair, afte
 ghost use Rattle.ink_interp.specs.Answers.{AnswersReply, IsApart, Leaves, told};
 ghost use Rattle.ink_interp.specs.declared.reply.Reply.{Reply as OneReply};
 ghost use Rattle.ink_parcel.specs.Parts.{AreApartFrom};
-ghost use Rattle.ink_parcel.specs.View.{parcel_of};
 ghost use Rattle.ink_proc.specs.State.{state_of};
 
 use crate::begin::take_message;
@@ -88,7 +87,7 @@ fn put_pair(proc: &mut Proc, code: &Code, number: u32) -> Result<(), Wrong>
 #[tactic(auto, using(crate::proofs::AnswerLemmas::same_place))]
 fn put_value(proc: &mut Proc, code: &Code, parcel: Parcel) -> Result<(), AnswerFault>
     requires { AreApartFrom proc.old.heap.objects parcel.objects }
-    ensures { AnswersReply (after_got (parcel_of parcel) (current code.now proc.old.frames) (state_of proc.old)) result (OneReply.Got parcel) (state_of proc.old) (state_of proc.new) }
+    ensures { AnswersReply (after_got parcel (current code.now proc.old.frames) (state_of proc.old)) result (OneReply.Got parcel) (state_of proc.old) (state_of proc.new) }
 {
     let Some((next, Instr::FutureGet { to, future })) = current(code, &proc.frames) else {
         return Err(AnswerFault::Wrong(Wrong::Kind));

@@ -5,7 +5,6 @@ ghost use Rattle.ink_code.specs.Replies.{after_taken};
 ghost use Rattle.ink_interp.specs.Answers.{AnswersReply};
 ghost use Rattle.ink_interp.specs.declared.reply.Reply.{Reply as OneReply};
 ghost use Rattle.ink_parcel.specs.Parts.{AreApartFrom};
-ghost use Rattle.ink_parcel.specs.View.{parcel_of};
 ghost use Rattle.ink_proc.specs.State.{state_of};
 
 use crate::reply::{AnswerFault, Reply};
@@ -39,7 +38,7 @@ pub(crate) fn take_message(
     parcel: Parcel,
 ) -> Result<(), AnswerFault>
     requires { AreApartFrom proc.old.heap.objects parcel.objects }
-    ensures { AnswersReply (after_taken code.now method (parcel_of parcel) (state_of proc.old)) result (OneReply.Message method parcel) (state_of proc.old) (state_of proc.new) }
+    ensures { AnswersReply (after_taken code.now method parcel (state_of proc.old)) result (OneReply.Message method parcel) (state_of proc.old) (state_of proc.new) }
 {
     let registers = match code.methods.get(u64::from(method)) {
         None => return Err(AnswerFault::Wrong(Wrong::Absent)),

@@ -1,5 +1,8 @@
+pub mod CutLemmas
+pub mod ExactLemmas
 pub mod JoinedLemmas
 pub mod MovesLemmas
+pub mod OwnedLemmas
 pub mod PartsLemmas
 pub mod PutLemmas
 pub mod UnderLemmas

@@ -13,9 +13,8 @@ use Rattle.ink_base.specs.declared.value.Value.{Value}
 use Rattle.ink_base.specs.declared.value.Value.TheVariants as v
 use Rattle.ink_base.specs.Ident.{id_cmp}
 use Rattle.ink_base.specs.declared.object.Object.{Object}
-use Rattle.ink_base.specs.Objects.{Objects}
-use Rattle.ink_base.specs.Objects as base
-use Rattle.ink_code.specs.Trees.{first_owned, fields_of_found, meets_first, meets, is_under}
+use Rattle.ink_base.specs.Objects.{Objects, fields_in}
+use Rattle.ink_code.specs.Trees.{first_owned, meets_first, meets, is_under}
 use Rattle.ink_parcel.specs.Owners.{owner_in, owners}
 
 pub owners-append : (xs ys : List Value) → owners (xs ++ ys) ≡ owners xs ++ owners ys
@@ -57,10 +56,10 @@ meets_first-alike id objects further alike (Some (a, xs)) None same = cc
 meets_first-alike id objects further alike (Some (a, xs)) (Some (b, ys)) same =
     let name : a ≡ b = cc in
     let rest : owners xs ≡ owners ys = cc in
-    let fields = fields_of_found (get objects b) in
+    let fields = fields_in objects b in
     let both : owners (fields ++ xs) ≡ owners (fields ++ ys) =
     owners-append fields xs ∙ ap (λ ids. owners fields ++ ids) rest ∙ sym (owners-append fields ys) in
-    ap (λ (n : ObjectId). if is_eq (id_cmp n id) then true else further (fields_of_found (get objects n) ++ xs)) name
+    ap (λ (n : ObjectId). if is_eq (id_cmp n id) then true else further (fields_in objects n ++ xs)) name
     ∙ ap (λ (t : Bool). if is_eq (id_cmp b id) then true else t) (alike (fields ++ xs) (fields ++ ys) both)
 
 pub meets-alike : (most : ℕ) (id : ObjectId) (objects : Objects) (xs ys : List Value) → owners xs ≡ owners ys → meets most id xs objects ≡ meets most id ys objects
@@ -104,7 +103,7 @@ unfolding meets
 met_from-zero zero id objects stack none = refl
 met_from-zero (suc most) id objects stack none = absurd (omega arith)
 
-met_next : (most : ℕ) (id next : ObjectId) (objects : Objects) (stack : List ObjectId) → met_from (suc most) id objects (stack ++ next ∷ []) ≡ (if is_same next id then true else meets most id (fields_of_found (get objects next) ++ all_own (reverse stack)) objects)
+met_next : (most : ℕ) (id next : ObjectId) (objects : Objects) (stack : List ObjectId) → met_from (suc most) id objects (stack ++ next ∷ []) ≡ (if is_same next id then true else meets most id (fields_in objects next ++ all_own (reverse stack)) objects)
 unfolding meets
 met_next most id next objects stack =
     ap (λ ids. meets (suc most) id (all_own ids) objects) (reverse-append stack (next ∷ []))
@@ -115,16 +114,12 @@ met_from-here zero id next objects stack rest some is here = absurd (omega arith
 met_from-here (suc most) id next objects stack rest some is here =
     ap (met_from (suc most) id objects) is
     ∙ met_next most id next objects rest
-    ∙ ap (λ (same : Bool). if same then true else meets most id (fields_of_found (get objects next) ++ all_own (reverse rest)) objects) here
-
-same_fields : (found : Option Object) → option_map_or (λ object. object.fields) found [] ≡ fields_of_found found
-same_fields None = refl
-same_fields (Some object) = refl
+    ∙ ap (λ (same : Bool). if same then true else meets most id (fields_in objects next ++ all_own (reverse rest)) objects) here
 
 -- it is another, and those that its fields own are put on the stack
-pub met_from-on : (most less : ℕ) (id next : ObjectId) (objects : Objects) (stack rest more : List ObjectId) → most ≡ suc less → stack ≡ rest ++ next ∷ [] → is_same next id ≡ false → more ≡ rest ++ reverse (owners (base.fields_in objects next)) → met_from most id objects stack ≡ met_from less id objects more
+pub met_from-on : (most less : ℕ) (id next : ObjectId) (objects : Objects) (stack rest more : List ObjectId) → most ≡ suc less → stack ≡ rest ++ next ∷ [] → is_same next id ≡ false → more ≡ rest ++ reverse (owners (fields_in objects next)) → met_from most id objects stack ≡ met_from less id objects more
 met_from-on most less id next objects stack rest more one is other put =
-    let fields = base.fields_in objects next in
+    let fields = fields_in objects next in
     let turned : reverse more ≡ owners fields ++ reverse rest =
     ap reverse put
     ∙ reverse-append rest (reverse (owners fields))
@@ -136,8 +131,7 @@ met_from-on most less id next objects stack rest more one is other put =
     ap (λ (n : ℕ). met_from n id objects stack) one
     ∙ ap (met_from (suc less) id objects) is
     ∙ met_next less id next objects rest
-    ∙ ap (λ (same : Bool). if same then true else meets less id (fields_of_found (get objects next) ++ all_own (reverse rest)) objects) other
-    ∙ ap (λ front. meets less id (front ++ all_own (reverse rest)) objects) (sym (same_fields (get objects next)))
+    ∙ ap (λ (same : Bool). if same then true else meets less id (fields_in objects next ++ all_own (reverse rest)) objects) other
     ∙ meets-alike less id objects (fields ++ all_own (reverse rest)) (all_own (reverse more)) all
 
 -- one field more, from the last to the first
@@ -162,12 +156,12 @@ read_found None index = refl
 read_found (Some object) index = refl
 
 -- what stands in a field of an object
-pub field_read : (objects : Objects) (id : ObjectId) (index : ℕ) → option_and_then (λ object. slice_get object.fields index) (get objects id) ≡ slice_get (base.fields_in objects id) index
+pub field_read : (objects : Objects) (id : ObjectId) (index : ℕ) → option_and_then (λ object. slice_get object.fields index) (get objects id) ≡ slice_get (fields_in objects id) index
 field_read objects id index = read_found (get objects id) index
 
-pub field_there : (objects : Objects) (id : ObjectId) (index : ℕ) → None ≡ option_and_then (λ object. slice_get object.fields index) (get objects id) → index < length (base.fields_in objects id) → ⊥
+pub field_there : (objects : Objects) (id : ObjectId) (index : ℕ) → None ≡ option_and_then (λ object. slice_get object.fields index) (get objects id) → index < length (fields_in objects id) → ⊥
 field_there objects id index is low =
-    let fields = base.fields_in objects id in
+    let fields = fields_in objects id in
     none-some (get_or fields index v.Nil) (is ∙ field_read objects id index ∙ slice_get-get_or fields index v.Nil low)
 
 -- a stack from which one was taken was not empty

@@ -1,5 +1,4 @@
 pub mod Moves
 pub mod Owners
 pub mod Parts
-pub mod View
 pub mod Walk

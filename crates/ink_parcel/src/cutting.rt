@@ -1,5 +1,7 @@
 //! Cutting the ownership tree of values out of a heap.
-ghost use Rattle.std.specs.Prelude.{◌≡◌, ◌≤◌, Result, IfErr, IfOk, OnErr};
+ghost use Rattle.std.specs.Prelude.{◌≡◌, ◌≤◌, List, ◌++◌, Result, IfErr, IfOk, OnErr, OnOk};
+ghost use Rattle.ink_base.specs.declared.value.Value.{Value as OneValue};
+ghost use Rattle.ink_code.specs.Owned.{AreOwnedOnce};
 ghost use Rattle.ink_code.specs.Trees.{parted_of};
 ghost use Rattle.ink_code.specs.declared.wrong.Wrong.TheVariants as Wrong;
 ghost use Rattle.ink_parcel.specs.Parts.{HoldsTree, Splits};
@@ -18,6 +20,9 @@ use std::alloc::Global;
 /// The values name their objects by owners, and so do the fields of these. The objects are taken one after another:
 /// first those of the values, and then those of the fields of the objects that were taken, in that order.
 ///
+/// In the parcel each object is owned once, by one of its values or by one field. Where before each object was owned once,
+/// by the values and others that are held, each of the objects that stay still is, by the others.
+///
 /// `Absent` where an object isn't in the heap at its turn, since the heap never had it or since it is owned twice, and
 /// only there; `OutOfMemory` where there is no memory for the next one. Then all objects stay and the values come back.
 pub fn cut(alloc: Global, heap: &mut Heap, values: Items<Value>) -> Result<Parcel, CutFault>
@@ -26,6 +31,8 @@ pub fn cut(alloc: Global, heap: &mut Heap, values: Items<Value>) -> Result<Parce
     ensures objects { IfOk result (λ parcel. Splits heap.old.objects heap.new.objects parcel.objects) }
     ensures room { heap.old.spare ≤ heap.new.spare }
     ensures parted { IfOk result (λ parcel. parted_of values heap.old.objects ≡ Result.Ok (record { left = heap.new.objects; taken = parcel.objects })) }
+    ensures owned { IfOk result (λ parcel. AreOwnedOnce parcel.values parcel.objects) }
+    ensures left { (others : List OneValue) → AreOwnedOnce (values ++ others) heap.old.objects → OnOk result (AreOwnedOnce others heap.new.objects) }
     ensures absent { IfErr result (λ fault. OnAbsent fault (parted_of values heap.old.objects ≡ Result.Err Wrong.Object)) }
     ensures back { IfErr result (λ fault. values_in fault ≡ values) }
     ensures err { OnErr result (heap.new.objects ≡ heap.old.objects) }

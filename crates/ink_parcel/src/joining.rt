@@ -4,7 +4,6 @@ ghost use Rattle.std.specs.FinMap.{len};
 ghost use Rattle.ink_code.specs.Trees.{joined};
 ghost use Rattle.ink_parcel.specs.Moves.{CanBePut, SplitsOff};
 ghost use Rattle.ink_parcel.specs.Parts.{AreApartFrom, Splits};
-ghost use Rattle.ink_parcel.specs.View.{parcel_of};
 
 use crate::fault::JoinFault;
 use crate::parcel::Parcel;
@@ -18,7 +17,7 @@ pub fn join(heap: &mut Heap, parcel: Parcel) -> Result<Items<Value>, JoinFault>
     requires { AreApartFrom heap.old.objects parcel.objects }
     ensures values { IfOk result (λ values. values ≡ parcel.values) }
     ensures objects { OnOk result (Splits heap.new.objects heap.old.objects parcel.objects) }
-    ensures joined { OnOk result (heap.new.objects ≡ joined heap.old.objects (parcel_of parcel)) }
+    ensures joined { OnOk result (heap.new.objects ≡ joined heap.old.objects parcel) }
     ensures succeeds { len parcel.objects ≤ heap.old.spare → IsOk result }
     ensures back { IfErr result (λ fault. fault ≡ JoinFault.OutOfMemory parcel) }
     ensures err { OnErr result (heap.new ≡ heap.old) }

@@ -7,7 +7,7 @@ use std::marker::Model;
 
 /// Some values, and objects of which no two have one name.
 ///
-/// A contract sees the list of the values, and the objects as a finite map from their names.
+/// A contract sees the code machine's parcel: the list of the values, and the objects as a finite map from their names.
 #[derive(Debug, Drop)]
 pub struct Parcel {
     pub(crate) values: Items<Value>,
@@ -24,9 +24,9 @@ impl Model for Parcel {
     ghost use Rattle.ink_base.specs.Objects.{Objects};
     ghost use Rattle.ink_heap.specs.Pairs.{AreApart};
     ghost use Rattle.ink_base.specs.contracts.object.Object as object;
-    ghost use Rattle.ink_parcel.specs.View.{ParcelView};
+    ghost use Rattle.ink_code.specs.Trees as trees;
 
-    ghost Value = { ParcelView };
+    ghost Value = { trees.Parcel };
 
     ghost coded = { code_by (List OneValue × Objects) (coded× (coded_list value.the_row.coded) (code coded_id object.the_row.coded)) (λ p. (p.values, p.objects)) (λ p. record { values = p.0; objects = p.1 }) (λ _. refl) };
 

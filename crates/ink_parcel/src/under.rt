@@ -1,8 +1,11 @@
 //! Whether an object is in the ownership tree of a value.
 //!
 //! The walk keeps the objects that it still has to look at on a stack, so that a tree may be as high as memory allows.
-ghost use Rattle.std.specs.Prelude.{◌≡◌, ◌++◌, [], reverse, IfOk, IsOk, OnOk};
+ghost use Rattle.std.specs.Prelude.{◌≡◌, ◌↔◌, List, [], ◌∷◌, ◌++◌, reverse, IfOk, IsOk, IsTrue, OnOk};
+ghost use Rattle.ink_base.specs.declared.value.Value.{Value as OneValue};
 ghost use Rattle.ink_base.specs.Objects.{fields_in};
+ghost use Rattle.ink_base.specs.Tree.{InTree};
+ghost use Rattle.ink_code.specs.Owned.{AreOwnedOnce};
 ghost use Rattle.ink_code.specs.Trees as trees;
 ghost use Rattle.ink_parcel.specs.Owners.{owner_in, owners};
 
@@ -35,10 +38,11 @@ fn push_owners(stack: &mut Vec<ObjectId>, heap: &Heap, id: &ObjectId) -> Result<
     Ok(())
 }
 
-/// Whether a walk down from a value, through the fields of the objects that it meets, comes to that object.
+/// Whether an object is in the ownership tree of a value.
 ///
-/// The walk looks at no more objects than the heap has. An object that isn't there owns nothing, but can be met. The
-/// error says that there was no memory for the list of what is still to look at.
+/// `true` is right of any heap. `false` is right where each object is owned once, by the value, by one of the others that
+/// are held beside it, or by a field: the walk down from the value looks at no more objects than the heap has, and so
+/// ends on any heap. The error says that there was no memory for the list of what is still to look at.
 pub fn is_under(
     alloc: Global,
     heap: &Heap,
@@ -46,6 +50,8 @@ pub fn is_under(
     value: &Value,
 ) -> Result<bool, AllocError>
     ensures found { IfOk result (λ found. found ≡ trees.is_under id.now value.now heap.now.objects) }
+    ensures tree { IfOk result (λ found. IsTrue found → InTree (fields_in heap.now.objects) (value.now ∷ []) id.now) }
+    ensures exact { (others : List OneValue) → AreOwnedOnce (value.now ∷ others) heap.now.objects → IfOk result (λ found. IsTrue found ↔ InTree (fields_in heap.now.objects) (value.now ∷ []) id.now) }
     ensures succeeds { owner_in value.now ≡ [] → IsOk result }
 {
     let mut stack = Vec::new(alloc);

@@ -1,6 +1,7 @@
 //! One process.
 ghost use Rattle.std.specs.Prelude.{◌≡◌, IfErr, IfOk};
-ghost use Rattle.ink_proc.specs.Starts.{CanStart, started};
+ghost use Rattle.ink_code.specs.Process.{started};
+ghost use Rattle.ink_proc.specs.Starts.{CanStart};
 ghost use Rattle.ink_proc.specs.State.{state_of};
 
 use crate::fault::StartFault;

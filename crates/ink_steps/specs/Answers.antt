@@ -8,7 +8,6 @@ use Rattle.ink_base.specs.Objects.{Objects}
 use Rattle.ink_base.specs.declared.value.Value.{Value}
 use Rattle.ink_code.specs.Process.{Process}
 use Rattle.ink_code.specs.Trees.{Parcel, Parted}
-use Rattle.ink_parcel.specs.View.{ParcelView, parcel_of}
 use Rattle.ink_proc.specs.declared.process.Proc.{Proc}
 use Rattle.ink_proc.specs.State.{state_of}
 use Rattle.ink_steps.specs.declared.stepped.Request.{Request}
@@ -21,10 +20,10 @@ use Rattle.ink_steps.specs.declared.stepped.StepFault.TheVariants as fault
 abbrev pub action_of : Request → Action Parcel
 action_of request.Take = action.Take
 action_of (request.Print text) = action.Print text
-action_of (request.Spawn kind fields) = action.Spawn kind (parcel_of fields)
-action_of (request.Send to method values) = action.Send to method (parcel_of values)
+action_of (request.Spawn kind fields) = action.Spawn kind fields
+action_of (request.Send to method values) = action.Send to method values
 action_of request.NewFuture = action.NewFuture
-action_of (request.SetFuture future value) = action.SetFuture future (parcel_of value)
+action_of (request.SetFuture future value) = action.SetFuture future value
 action_of (request.BreakFuture future) = action.BreakFuture future
 action_of (request.GetFuture future) = action.GetFuture future
 
@@ -75,7 +74,7 @@ PanicsWith text (Ok came) = told came ≡ machine.Panics text
 PanicsWith text (Err why) = why ≡ fault.OutOfMemory
 
 -- the parcel has the values and the objects of their tree, and these are left; or one that is owned isn't there
-abbrev pub IsCut : Result Parted Wrong → Result ParcelView StepFault → List Value → Objects → Type 0
+abbrev pub IsCut : Result Parted Wrong → Result Parcel StepFault → List Value → Objects → Type 0
 IsCut parted (Ok parcel) values left = (parted ≡ Ok (record { left = left; taken = parcel.objects })) × (parcel.values ≡ values)
 IsCut parted (Err (fault.Wrong why)) values left = parted ≡ Err why
 IsCut parted (Err fault.OutOfMemory) values left = Unit {0}

@@ -8,6 +8,7 @@ use Rattle.ink_code.specs.declared.wrong.Wrong.TheVariants as wrong
 use Rattle.ink_code.specs.Trees.{Parted, parted_of}
 use Rattle.ink_parcel.specs.Walk.{IsUnparted, OnAbsent, values_in}
 use Rattle.ink_parcel.proofs.WalkLemmas.{OnAbsent-fault, values_in-with}
+use Rattle.ink_parcel.proofs.CutLemmas.{cut_owned_once, left_owned_once}
 use Rattle.ink_parcel.proofs.cutting.cut.Goals as goal
 
 pub returns-in-Ok-clause-tree : goal.returns-in-Ok-clause-tree
@@ -37,3 +38,13 @@ returns-in-Err-clause-absent c =
 pub returns-in-Err-clause-back : goal.returns-in-Err-clause-back
 returns-in-Err-clause-back c =
     ap values_in c.with_values.ensures ∙ values_in-with c.in-Err.why c.args.values
+
+pub returns-in-Ok-clause-owned : goal.returns-in-Ok-clause-owned
+returns-in-Ok-clause-owned c =
+    let parts : Parted = record { left = c.move_tree.new.heap.objects; taken = from_entries c.move_tree.new.moved.items } in
+    cut_owned_once c.args.values c.args.heap.now.objects parts (returns-in-Ok-clause-parted c)
+
+pub returns-in-Ok-clause-left : goal.returns-in-Ok-clause-left
+returns-in-Ok-clause-left c = λ others once.
+    let parts : Parted = record { left = c.move_tree.new.heap.objects; taken = from_entries c.move_tree.new.moved.items } in
+    left_owned_once c.args.values others c.args.heap.now.objects parts (returns-in-Ok-clause-parted c) once

@@ -3,7 +3,6 @@ use Rattle.std.specs.FinMap.{from_entries, len}
 use Rattle.ink_heap.proofs.PairsLemmas.{len-apart}
 use Rattle.ink_parcel.specs.Moves.{CanBePut}
 use Rattle.ink_parcel.specs.Parts.{Splits}
-use Rattle.ink_parcel.specs.View.{parcel_of}
 use Rattle.ink_parcel.proofs.JoinedLemmas.{joined-split}
 use Rattle.ink_parcel.proofs.PutLemmas.{CanBePut-apart, Splits-put}
 use Rattle.ink_parcel.proofs.joining.join.Goals as goal
@@ -29,4 +28,4 @@ returns-clause-objects c =
 
 pub returns-clause-joined : goal.returns-clause-joined
 returns-clause-joined c =
-    joined-split c.put_all.new.heap.objects c.args.heap.now.objects (parcel_of c.args.parcel) (returns-clause-objects c)
+    joined-split c.put_all.new.heap.objects c.args.heap.now.objects c.args.parcel (returns-clause-objects c)

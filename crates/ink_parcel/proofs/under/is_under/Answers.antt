@@ -1,7 +1,8 @@
-use Rattle.std.proofs.Common.{◌≡◌, ℕ, ◌+◌, ◌-◌, ◌<◌, ◌++◌, length, suc, ap, sym, ◌∙◌, arith}
+use Rattle.std.proofs.Common.{◌≡◌, ℕ, true, false, ◌+◌, ◌-◌, ◌<◌, ◌++◌, length, suc, ap, sym, ◌∙◌, arith}
 use Rattle.std.specs.FinMap.{len}
 use Rattle.ink_parcel.specs.Owners.{owner_in}
 use Rattle.std.specs.Ordering.{is_eq}
+use Rattle.ink_parcel.proofs.ExactLemmas.{found_in_tree, found_exactly}
 use Rattle.ink_parcel.proofs.UnderLemmas.{met_from, met_from-value, met_from-empty, met_from-zero, met_from-here, met_from-on, not_empty}
 use Rattle.ink_parcel.proofs.under.is_under.Goals as goal
 
@@ -50,3 +51,19 @@ pub returns-clause-found : goal.returns-clause-found
 returns-clause-found c =
     let none : c.len-end.result - c.loop.counter ≡ 0 = omega arith in
     sym (c.loop.invariant.walk ∙ met_from-zero (c.len-end.result - c.loop.counter) c.args.id.now c.args.heap.now.objects c.loop.stack.items none)
+
+pub returns-then-is_eq-clause-tree : goal.returns-then-is_eq-clause-tree
+returns-then-is_eq-clause-tree c =
+    found_in_tree c.args.id.now c.args.value.now c.args.heap.now.objects true (returns-then-is_eq-clause-found c)
+
+pub returns-in-None-clause-exact : goal.returns-in-None-clause-exact
+returns-in-None-clause-exact c = λ others once.
+    found_exactly c.args.id.now c.args.value.now others c.args.heap.now.objects false (returns-in-None-clause-found c) once
+
+pub returns-then-is_eq-clause-exact : goal.returns-then-is_eq-clause-exact
+returns-then-is_eq-clause-exact c = λ others once.
+    found_exactly c.args.id.now c.args.value.now others c.args.heap.now.objects true (returns-then-is_eq-clause-found c) once
+
+pub returns-clause-exact : goal.returns-clause-exact
+returns-clause-exact c = λ others once.
+    found_exactly c.args.id.now c.args.value.now others c.args.heap.now.objects false (returns-clause-found c) once
