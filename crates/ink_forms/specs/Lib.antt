@@ -1,0 +1,4 @@
+pub mod Trees
+pub mod Built
+pub mod Fits
+pub mod Views
