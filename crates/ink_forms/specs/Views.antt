@@ -12,6 +12,7 @@ use Rattle.ink_forms.specs.declared.pattern.Pattern.{Pattern}
 use Rattle.ink_forms.specs.declared.written.WrittenType.{WrittenType}
 use Rattle.ink_forms.specs.Trees.{Written, WrittenList, Pat, Pats, FieldPats, Term, Terms, Arguments, Guard, Arms, OneArm, OneArgument, OneField, ParameterTree, MethodTree}
 use Rattle.ink_forms.specs.Built.{Item, Lists, all_lists, items, part, spot, term_at, pat_at, written_at, parameter_at, method_at, guard_at, arm_at, argument_at, field_at, terms_at, pats_at, written_list_at, parameters_at, arms_at, arguments_at, fields_at, grow_term, grow_pat, grow_written, grow_parameter, grow_method}
+use Rattle.ink_forms.specs.Kept.{Lengthens, Agrees}
 use Rattle.ink_forms.specs.Fits.{IsBelow, IsArmBelow, IsArgumentBelow, IsFieldBelow, NumbersFit, ArmsFit, ArgumentsFit, FieldsFit, ExprFits, PatternFits, WrittenFits, MethodFits}
 
 abbrev pub lists_of : Arena → Lists
@@ -163,17 +164,6 @@ pub record IsSame (old new : Arena) : Type 0 where
 
 -- What an arena showed before it grew, it shows still.
 pub record Keeps (old new : Arena) : Type 0 where
-  pub count : count old ≤ count new
-  pub term : (n : ℕ) → n < count old → term new n ≡ term old n
-  pub pat : (n : ℕ) → n < count old → pat new n ≡ pat old n
-  pub written : (n : ℕ) → n < count old → written new n ≡ written old n
-  pub parameter : (n : ℕ) → n < count old → parameter new n ≡ parameter old n
-  pub method : (n : ℕ) → n < count old → method new n ≡ method old n
-  pub list : (c : Children) → IsList old c → list new c ≡ list old c
-  pub list_stays : (c : Children) → IsList old c → IsList new c
-  pub arms : (c : Children) → IsArmList old c → arm_list new c ≡ arm_list old c
-  pub arms_stay : (c : Children) → IsArmList old c → IsArmList new c
-  pub arguments : (c : Children) → IsArgumentList old c → argument_list new c ≡ argument_list old c
-  pub arguments_stay : (c : Children) → IsArgumentList old c → IsArgumentList new c
-  pub fields : (c : Children) → IsFieldList old c → field_list new c ≡ field_list old c
-  pub fields_stay : (c : Children) → IsFieldList old c → IsFieldList new c
+  pub grows : count old ≤ count new
+  pub lists : Lengthens (lists_of old) (lists_of new)
+  pub trees : Agrees (count old) (items_of old) (items_of new)

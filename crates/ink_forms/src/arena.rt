@@ -1,16 +1,16 @@
 //! The arena: the nodes of a module, and the items of their lists.
 //!
 //! It only grows: what stood at a number, and in a list, stays.
-ghost use Rattle.std.specs.Prelude.{◌≡◌, ◌∷◌, ◌++◌, ◌<◌, ◌≤◌, ◌+◌, [], All, length, OnOk, IfOk, OnErr, slice_get};
+ghost use Rattle.std.specs.Prelude.{◌≡◌, ◌∷◌, ◌++◌, ◌<◌, ◌≤◌, ◌+◌, [], All, length, OnOk, IfOk, OnErr};
 ghost use Rattle.ink_forms.specs.Built as built;
 ghost use Rattle.ink_forms.specs.Fits as fit;
 
 use crate::expr::{Argument, Arm, Expr};
 use crate::list::Children;
-use crate::method::{Method, Mode, Parameter};
+use crate::method::{Method, Parameter};
 use crate::node::{ExprNode, Form, MethodNode, Node, ParameterNode, PatternNode, WrittenNode};
 use crate::pattern::{FieldPattern, Pattern};
-use crate::word::Literal;
+use crate::read::{expr_of, method_of, node_at, parameter_of, pattern_of, written_of};
 use crate::written::WrittenType;
 use std::alloc::{AllocError, Global};
 
@@ -19,76 +19,6 @@ const MOST_NODES: usize = 0x0400_0000;
 
 /// The greatest number of items in the lists of one kind.
 const MOST_ITEMS: usize = 0x8000_0000;
-
-/// What a number that is no expression's gives.
-const NO_EXPR: ExprNode = ExprNode {
-    start: 0,
-    place: 0,
-    expr: Expr::Lit {
-        literal: Literal::Nil,
-    },
-};
-
-/// What a number that is no pattern's gives.
-const NO_PATTERN: PatternNode = PatternNode {
-    start: 0,
-    place: 0,
-    pattern: Pattern::Wildcard,
-};
-
-/// A list without items.
-const NO_CHILDREN: Children = Children { start: 0, end: 0 };
-
-/// What a number that is no written type's gives.
-const NO_WRITTEN: WrittenNode = WrittenNode {
-    start: 0,
-    place: 0,
-    written: WrittenType::Named {
-        name: 0,
-        arguments: NO_CHILDREN,
-    },
-};
-
-/// A node by its number.
-fn node_at(nodes: &[Node], number: u32) -> Option<Node>
-    ensures { result ≡ slice_get nodes.now number }
-{
-    match nodes.get(number as usize) {
-        Some(node) => Some(*node),
-        None => None,
-    }
-}
-
-/// What a number that is no parameter's gives.
-fn no_parameter(number: u32) -> ParameterNode
-    ensures start { result.start ≡ 0 }
-    ensures place { result.place ≡ 0 }
-    ensures name { result.parameter.name ≡ 0 }
-    ensures annotation { result.parameter.annotation ≡ number }
-{
-    ParameterNode {
-        start: 0,
-        place: 0,
-        parameter: Parameter {
-            name: 0,
-            annotation: number,
-        },
-    }
-}
-
-/// What a number that is no method's gives.
-fn no_method(number: u32) -> MethodNode {
-    MethodNode {
-        start: 0,
-        place: 0,
-        method: Method {
-            mode: Mode::Plain,
-            is_async: false,
-            parameters: NO_CHILDREN,
-            body: number,
-        },
-    }
-}
 
 /// The nodes of a module in one space of numbers, each after its children, and the items of their lists.
 #[derive(Drop)]
@@ -131,16 +61,7 @@ impl Arena {
         ensures term { view.term self.now number ≡ view.expr_tree self.now number result.start result.place result.expr }
         ensures stands { view.ExprStands self.now number result.expr }
     {
-        match node_at(&self.nodes, number) {
-            Some(
-                Node {
-                    start,
-                    place,
-                    form: Form::Expr(expr),
-                },
-            ) => ExprNode { start, place, expr },
-            _ => NO_EXPR,
-        }
+        expr_of(node_at(&self.nodes, number))
     }
 
     /// A pattern by its number. A number that is no pattern's gives `_`.
@@ -148,20 +69,7 @@ impl Arena {
         ensures pattern { view.pat self.now number ≡ view.pattern_tree self.now number result.start result.place result.pattern }
         ensures stands { view.PatternStands self.now number result.pattern }
     {
-        match node_at(&self.nodes, number) {
-            Some(
-                Node {
-                    start,
-                    place,
-                    form: Form::Pattern(pattern),
-                },
-            ) => PatternNode {
-                start,
-                place,
-                pattern,
-            },
-            _ => NO_PATTERN,
-        }
+        pattern_of(node_at(&self.nodes, number))
     }
 
     /// A written type by its number. A number that is no written type's gives one without a name.
@@ -169,41 +77,16 @@ impl Arena {
         ensures written { view.written self.now number ≡ view.written_tree self.now number result.start result.place result.written }
         ensures stands { view.WrittenStands self.now number result.written }
     {
-        match node_at(&self.nodes, number) {
-            Some(
-                Node {
-                    start,
-                    place,
-                    form: Form::Written(written),
-                },
-            ) => WrittenNode {
-                start,
-                place,
-                written,
-            },
-            _ => NO_WRITTEN,
-        }
+        written_of(node_at(&self.nodes, number))
     }
 
     /// A parameter by its number. A number that is no parameter's gives one without a name, whose type is what stands at
     /// that number.
     pub fn parameter(&self, number: u32) -> ParameterNode
         ensures parameter { view.parameter self.now number ≡ view.parameter_tree self.now number result.start result.place result.parameter }
+        ensures stands { result.parameter.annotation ≤ number }
     {
-        match node_at(&self.nodes, number) {
-            Some(
-                Node {
-                    start,
-                    place,
-                    form: Form::Parameter(parameter),
-                },
-            ) => ParameterNode {
-                start,
-                place,
-                parameter,
-            },
-            _ => no_parameter(number),
-        }
+        parameter_of(number, node_at(&self.nodes, number))
     }
 
     /// A method by its number. A number that is no method's gives one without parameters, whose body is what stands at
@@ -211,21 +94,9 @@ impl Arena {
     pub fn method(&self, number: u32) -> MethodNode
         ensures method { view.method self.now number ≡ view.method_tree self.now number result.start result.place result.method }
         ensures parameters { view.AreBefore self.now number result.method.parameters }
+        ensures body { result.method.body ≤ number }
     {
-        match node_at(&self.nodes, number) {
-            Some(
-                Node {
-                    start,
-                    place,
-                    form: Form::Method(method),
-                },
-            ) => MethodNode {
-                start,
-                place,
-                method,
-            },
-            _ => no_method(number),
-        }
+        method_of(number, node_at(&self.nodes, number))
     }
 
     /// The numbers of a list.

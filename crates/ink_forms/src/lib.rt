@@ -13,6 +13,7 @@ mod list;
 mod method;
 mod node;
 mod pattern;
+mod read;
 mod word;
 mod written;
 
