@@ -1,0 +1,4 @@
+pub mod Grown
+pub mod Readers
+pub mod Lists
+pub mod Fitting

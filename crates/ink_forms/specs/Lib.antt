@@ -1,0 +1,6 @@
+pub mod Trees
+pub mod Built
+pub mod Fits
+pub mod Kept
+pub mod Reads
+pub mod Views
