@@ -1,5 +1,5 @@
 -- Where lines begin, and the line and the column of a byte.
-use Rattle.std.proofs.Common.{◌≡◌, ℕ, ◌+◌, ◌-◌, ◌<◌, ◌≤◌, zero, suc, List, [], ◌∷◌, ◌++◌, length, take, drop, get_or, Bool, true, false, if◌then◌else◌, count_by, nat_le, refl, sym, ap, subst, ◌∙◌, arith, add-zero, append_assoc, length-append, length-drop, length-take, zero-add, rules}
+use Rattle.std.proofs.Common.{◌≡◌, ℕ, ◌+◌, ◌-◌, ◌<◌, ◌≤◌, zero, suc, List, [], ◌∷◌, ◌++◌, length, take, drop, get_or, Bool, true, false, if◌then◌else◌, count_by, refl, sym, ap, subst, ◌∙◌, arith, add-zero, length-append, length-drop, length-take, zero-add}
 use Rattle.std.specs.Prelude.{not}
 use Rattle.std.specs.List.{AllByRecursion, suffix_len, after_last}
 use Rattle.std.proofs.lemmas.List.{take-append-drop, get_or_append_left, get_or-append-add, append-nil}
@@ -72,8 +72,8 @@ since true bytes k last column inside is h =
     let here : suc k - 1 ≡ k = omega arith in
     let more : take (suc k) bytes ≡ take k bytes ++ get_or bytes k 0 ∷ [] = take-suc bytes k 0 inside in
     let starts : starts_behind 0 (take (suc k) bytes) ≡ starts_behind 0 (take k bytes) ++ suc (length (take k bytes)) ∷ [] =
-        ap (starts_behind 0) more ∙ starts_append_first (take k bytes) (get_or bytes k 0 ∷ [])
-        ∙ ap (λ (b : Bool). starts_behind 0 (take k bytes) ++ (if b then suc (length (take k bytes)) ∷ [] else [])) is in
+    ap (starts_behind 0) more ∙ starts_append_first (take k bytes) (get_or bytes k 0 ∷ [])
+    ∙ ap (λ (b : Bool). starts_behind 0 (take k bytes) ++ (if b then suc (length (take k bytes)) ∷ [] else [])) is in
     let last : last_or 0 (starts_behind 0 (take (suc k) bytes)) ≡ suc (length (take k bytes)) = ap (last_or 0) starts ∙ last_or-push 0 _ (starts_behind 0 (take k bytes)) in
     let none : suffix_len (λ b. not (is_line_feed b)) (take (suc k) bytes) ≡ 0 = suffix_len-take_no (λ b. not (is_line_feed b)) bytes (suc k) 0 (omega arith) (omega arith) (ap (λ n. not (is_line_feed (get_or bytes n 0))) here ∙ ap not is) in
     omega (arith, last, none, length-take k bytes)
@@ -81,12 +81,12 @@ since false bytes k last column inside is h =
     let here : suc k - 1 ≡ k = omega arith in
     let more : take (suc k) bytes ≡ take k bytes ++ get_or bytes k 0 ∷ [] = take-suc bytes k 0 inside in
     let starts : starts_behind 0 (take (suc k) bytes) ≡ starts_behind 0 (take k bytes) =
-        ap (starts_behind 0) more ∙ starts_append_first (take k bytes) (get_or bytes k 0 ∷ [])
-        ∙ ap (λ (b : Bool). starts_behind 0 (take k bytes) ++ (if b then suc (length (take k bytes)) ∷ [] else [])) is ∙ append-nil _ in
+    ap (starts_behind 0) more ∙ starts_append_first (take k bytes) (get_or bytes k 0 ∷ [])
+    ∙ ap (λ (b : Bool). starts_behind 0 (take k bytes) ++ (if b then suc (length (take k bytes)) ∷ [] else [])) is ∙ append-nil _ in
     let last : last_or 0 (starts_behind 0 (take (suc k) bytes)) ≡ last_or 0 (starts_behind 0 (take k bytes)) = ap (last_or 0) starts in
     let one : suffix_len (λ b. not (is_line_feed b)) (take (suc k) bytes) ≡ 1 + suffix_len (λ b. not (is_line_feed b)) (take k bytes) =
-        suffix_len-take_yes (λ b. not (is_line_feed b)) bytes (suc k) 0 (omega arith) (omega arith) (ap (λ n. not (is_line_feed (get_or bytes n 0))) here ∙ ap not is)
-        ∙ ap (λ n. 1 + suffix_len (λ b. not (is_line_feed b)) (take n bytes)) here in
+    suffix_len-take_yes (λ b. not (is_line_feed b)) bytes (suc k) 0 (omega arith) (omega arith) (ap (λ n. not (is_line_feed (get_or bytes n 0))) here ∙ ap not is)
+    ∙ ap (λ n. 1 + suffix_len (λ b. not (is_line_feed b)) (take n bytes)) here in
     omega (arith, last, one, h)
 
 last_start : (bytes : List ℕ) (k : ℕ) → k ≤ length bytes → last_or 0 (starts_behind 0 (take k bytes)) + suffix_len (λ b. not (is_line_feed b)) (take k bytes) ≡ k
@@ -99,9 +99,9 @@ split most xs ys all none = record {
   within = omega (arith, length-append xs ys);
   up_to = λ i h. let g : get_or xs i 0 ≤ most = All-from_recursion (λ x. x ≤ most) xs all i 0 h in omega (arith, g, get_or_append_left xs ys 0 i h);
   above = λ i h g.
-    let from : length xs + (i - length xs) ≡ i = omega arith in
-    let k : most < get_or ys (i - length xs) 0 = All-from_recursion (λ y. most < y) ys none (i - length xs) 0 (omega (arith, length-append xs ys)) in
-    omega (arith, k, ap (λ n. get_or (xs ++ ys) n 0) from, get_or-append-add xs ys (i - length xs) 0);
+      let from : length xs + (i - length xs) ≡ i = omega arith in
+      let k : most < get_or ys (i - length xs) 0 = All-from_recursion (λ y. most < y) ys none (i - length xs) 0 (omega (arith, length-append xs ys)) in
+      omega (arith, k, ap (λ n. get_or (xs ++ ys) n 0) from, get_or-append-add xs ys (i - length xs) 0);
 }
 
 -- the lines up to a byte, and those behind it
@@ -110,7 +110,7 @@ lines_split source byte h =
     let before = take byte source in
     let len : length before ≡ byte = omega (arith, length-take byte source) in
     let whole : line_starts source ≡ (0 ∷ starts_behind 0 before) ++ starts_behind byte (drop byte source) =
-        ap line_starts (sym (take-append-drop byte source)) ∙ ap (λ s. 0 ∷ s) (starts_append_first before (drop byte source) ∙ ap (λ n. starts_behind 0 before ++ starts_behind n (drop byte source)) len) in
+    ap line_starts (sym (take-append-drop byte source)) ∙ ap (λ s. 0 ∷ s) (starts_append_first before (drop byte source) ∙ ap (λ n. starts_behind 0 before ++ starts_behind n (drop byte source)) len) in
     let count : length (0 ∷ starts_behind 0 before) ≡ line_behind before = omega (arith, starts_count 0 before) in
     let front : AllByRecursion (λ start. start ≤ byte) (0 ∷ starts_behind 0 before) = (omega arith, at_most 0 byte before (omega arith)) in
     let made = split byte (0 ∷ starts_behind 0 before) (starts_behind byte (drop byte source)) front (above byte byte (drop byte source) (omega arith)) in
@@ -131,8 +131,8 @@ column_is source byte line h is =
     let whole : line_starts source ≡ (0 ∷ starts) ++ more = ap line_starts (sym (take-append-drop byte source)) ∙ ap (λ s. 0 ∷ s) (starts_append 0 before (drop byte source)) in
     let index : line - 1 ≡ length starts = omega (arith, is, starts_count 0 before) in
     let start : get_or (line_starts source) (line - 1) 0 ≡ last_or 0 starts =
-        ap (λ xs. get_or xs (line - 1) 0) whole ∙ ap (λ n. get_or ((0 ∷ starts) ++ more) n 0) index
-        ∙ get_or_append_left (0 ∷ starts) more 0 (length starts) (omega arith) ∙ last_or-at 0 0 starts in
+    ap (λ xs. get_or xs (line - 1) 0) whole ∙ ap (λ n. get_or ((0 ∷ starts) ++ more) n 0) index
+    ∙ get_or_append_left (0 ∷ starts) more 0 (length starts) (omega arith) ∙ last_or-at 0 0 starts in
     let after : length (after_last is_line_feed before) ≡ suffix_len (λ b. not (is_line_feed b)) before =
-        length-drop (length before - suffix_len (λ b. not (is_line_feed b)) before) before ∙ omega (arith, suffix_len-le-length (λ b. not (is_line_feed b)) before) in
+    length-drop (length before - suffix_len (λ b. not (is_line_feed b)) before) before ∙ omega (arith, suffix_len-le-length (λ b. not (is_line_feed b)) before) in
     omega (arith, start, after, last_start source byte h)

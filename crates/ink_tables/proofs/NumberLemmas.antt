@@ -1,5 +1,5 @@
 -- A number that is counted only up to a greatest one.
-use Rattle.std.proofs.Common.{◌≡◌, ℕ, ◌+◌, ◌*◌, ◌<◌, ◌≤◌, min, true, false, cond, ◌==◌, List, [], ◌∷◌, fold, refl, arith, ap, sym, ◌∙◌, ⊎_elim, ◌-◌, ◌^◌, pos, negsuc, if◌then◌else◌}
+use Rattle.std.proofs.Common.{◌≡◌, ℕ, ◌+◌, ◌*◌, ◌<◌, ◌≤◌, min, true, false, cond, ◌==◌, List, [], ◌∷◌, fold, arith, ap, sym, ◌∙◌, ⊎_elim, ◌-◌, ◌^◌, pos, negsuc, if◌then◌else◌}
 use Rattle.std.proofs.str.Laws.{order}
 use Rattle.std.specs.Char.{digit_value}
 use Rattle.std.proofs.lemmas.Bool.Decides.{nat_tests}
@@ -15,7 +15,7 @@ scaled base great number more positive =
     ⊎_elim
     (λ below. let e : min number great ≡ number = omega arith in ap (λ n. min (n * base + more) great) e)
     (λ above. let e : min number great ≡ great = omega arith in
-        ap (λ n. min (n * base + more) great) e ∙ omega (arith, grown base great more positive, grown base number more positive))
+    ap (λ n. min (n * base + more) great) e ∙ omega (arith, grown base great more positive, grown base number more positive))
     (order number great)
 
 behind : (base great number byte : ℕ) → 0 < base → min (number_behind base (min number great) byte) great ≡ min (number_behind base number byte) great
@@ -41,7 +41,7 @@ negative_min number =
     ⊎_elim
     (λ below. let e : min number 18446744073709551615 ≡ number = omega arith in ap negative e)
     (λ above. let e : min number 18446744073709551615 ≡ 18446744073709551615 = omega arith in
-        let some : (number == 0) ≡ false = grind (arith, nat_tests) in
-        let least : min (number - 1) (2 ^ 63 - 1) ≡ 2 ^ 63 - 1 = omega arith in
-        ap negative e ∙ ap negsuc (sym least) ∙ ap (λ b. if b then pos 0 else negsuc (min (number - 1) (2 ^ 63 - 1))) (sym some))
+    let some : (number == 0) ≡ false = grind (arith, nat_tests) in
+    let least : min (number - 1) (2 ^ 63 - 1) ≡ 2 ^ 63 - 1 = omega arith in
+    ap negative e ∙ ap negsuc (sym least) ∙ ap (λ b. if b then pos 0 else negsuc (min (number - 1) (2 ^ 63 - 1))) (sym some))
     (order number 18446744073709551615)

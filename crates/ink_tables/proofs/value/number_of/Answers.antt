@@ -1,6 +1,6 @@
 use Rattle.std.proofs.Common.{◌≡◌, ◌<◌, ◌+◌, ◌∷◌, [], fold, drop, min, length, get_or, sym, ap, ◌∙◌, arith, drop-cons, add-one, rules}
 use Rattle.std.proofs.lemmas.Grind.{common_steps}
-use Rattle.ink_tokens.specs.Integer.{number_behind, number_of}
+use Rattle.ink_tokens.specs.Integer.{number_behind}
 use Rattle.ink_tables.proofs.NumberLemmas.{counted}
 use Rattle.ink_tables.proofs.value.number_of.Goals as goal
 

@@ -1,4 +1,4 @@
-use Rattle.std.proofs.Common.{◌≡◌, ◌+◌, ◌++◌, ◌∷◌, drop}
+use Rattle.std.proofs.Common.{◌≡◌, ◌++◌, drop}
 use Rattle.ink_tables.specs.Lines.{starts_behind, line_starts}
 use Rattle.ink_tables.proofs.lines.Lines.of.Given as goal
 

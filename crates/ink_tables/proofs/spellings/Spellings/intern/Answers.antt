@@ -1,4 +1,4 @@
-use Rattle.std.proofs.Common.{◌≡◌, ◌++◌, ◌∷◌, [], ℕ, List, None, map, if◌then◌else◌, sym, ap, subst, ◌∙◌}
+use Rattle.std.proofs.Common.{◌≡◌, ◌++◌, ◌∷◌, [], None, map, if◌then◌else◌, sym, ap, ◌∙◌}
 use Rattle.std.specs.List.{position_from, list_any}
 use Rattle.std.specs.Str.{bytes_eq}
 use Rattle.std.proofs.lemmas.Cmp.{nat_list_eq_equiv}
@@ -14,7 +14,7 @@ returns-clause-number c =
     let keys = c.self.inside.set.keys in
     let spelling = c.in_ok-spelling.spelling in
     let fresh : position_from (bytes_eq bytes) 0 (map (λ v. v.items) keys) ≡ None =
-        ap (λ xs. position_from (bytes_eq bytes) 0 xs) c.self.view_is ∙ sym c.in_default.ensures.number in
+    ap (λ xs. position_from (bytes_eq bytes) 0 xs) c.self.view_is ∙ sym c.in_default.ensures.number in
     (taken (bytes_eq bytes) (λ v. v.items) keys c.insert.new.self.keys spelling bytes c.len-number.result (nat_list_eq_equiv.refl bytes) c.in_ok-spelling.ensures.items
     c.len-number.ensures.len fresh
     (c.in_ok-insert.ensures.keys ∙ ap (λ b. if list_any (λ y. bytes_eq b y.items) keys then keys else keys ++ spelling ∷ []) c.in_ok-spelling.ensures.items)).numbered
@@ -25,7 +25,7 @@ returns-clause-added c =
     let keys = c.self.inside.set.keys in
     let spelling = c.in_ok-spelling.spelling in
     let fresh : position_from (bytes_eq bytes) 0 (map (λ v. v.items) keys) ≡ None =
-        ap (λ xs. position_from (bytes_eq bytes) 0 xs) c.self.view_is ∙ sym c.in_default.ensures.number in
+    ap (λ xs. position_from (bytes_eq bytes) 0 xs) c.self.view_is ∙ sym c.in_default.ensures.number in
     (taken (bytes_eq bytes) (λ v. v.items) keys c.insert.new.self.keys spelling bytes c.len-number.result (nat_list_eq_equiv.refl bytes) c.in_ok-spelling.ensures.items
     c.len-number.ensures.len fresh
     (c.in_ok-insert.ensures.keys ∙ ap (λ b. if list_any (λ y. bytes_eq b y.items) keys then keys else keys ++ spelling ∷ []) c.in_ok-spelling.ensures.items)).grown
