@@ -2,3 +2,4 @@ pub mod Grown
 pub mod Readers
 pub mod Lists
 pub mod Fitting
+pub mod Runs

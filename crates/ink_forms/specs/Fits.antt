@@ -18,6 +18,10 @@ use Rattle.ink_forms.specs.declared.written.WrittenType.{WrittenType}
 use Rattle.ink_forms.specs.declared.written.WrittenType.TheVariants as w
 use Rattle.ink_forms.specs.Built.{Lists, part}
 
+-- the greatest number of nodes
+abbrev pub most_nodes : ℕ
+most_nodes = 67108864
+
 abbrev pub IsBelow : ℕ → ℕ → Type 0
 IsBelow n k = k < n
 

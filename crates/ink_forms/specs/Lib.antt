@@ -4,3 +4,7 @@ pub mod Fits
 pub mod Kept
 pub mod Reads
 pub mod Views
+pub mod Numbers
+pub mod Runs
+pub mod Work
+pub mod Modules

@@ -12,6 +12,7 @@ use Rattle.ink_forms.specs.declared.pattern.Pattern.{Pattern}
 use Rattle.ink_forms.specs.declared.written.WrittenType.{WrittenType}
 use Rattle.ink_forms.specs.Trees.{Written, WrittenList, Pat, Pats, FieldPats, Term, Terms, Arguments, Guard, Arms, OneArm, OneArgument, OneField, ParameterTree, MethodTree}
 use Rattle.ink_forms.specs.Built.{Item, Lists, all_lists, items, part, spot, term_at, pat_at, written_at, parameter_at, method_at, guard_at, arm_at, argument_at, field_at, terms_at, pats_at, written_list_at, parameters_at, arms_at, arguments_at, fields_at, grow_term, grow_pat, grow_written, grow_parameter, grow_method}
+use Rattle.ink_forms.specs.Fits as fit
 use Rattle.ink_forms.specs.Kept.{Lengthens, Agrees}
 use Rattle.ink_forms.specs.Fits.{IsBelow, IsArmBelow, IsArgumentBelow, IsFieldBelow, NumbersFit, ArmsFit, ArgumentsFit, FieldsFit, ExprFits, PatternFits, WrittenFits, MethodFits}
 
@@ -24,6 +25,10 @@ items_of a = items (lists_of a) a.nodes.items
 -- how many nodes there are
 abbrev pub count : Arena → ℕ
 count a = length a.nodes.items
+
+-- the greatest number of nodes
+abbrev pub most_nodes : ℕ
+most_nodes = fit.most_nodes
 
 -- what stands at a number
 abbrev pub term : Arena → ℕ → Term

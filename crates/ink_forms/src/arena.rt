@@ -3,7 +3,7 @@
 //! It only grows: what stood at a number, and in a list, stays.
 ghost use Rattle.std.specs.Prelude.{◌≡◌, ◌∷◌, ◌++◌, ◌<◌, ◌≤◌, ◌+◌, [], All, length, OnOk, IfOk, OnErr};
 ghost use Rattle.ink_forms.specs.Built as built;
-ghost use Rattle.ink_forms.specs.Fits as fit;
+ghost use Rattle.ink_forms.specs.Fits as fits;
 
 use crate::expr::{Argument, Arm, Expr};
 use crate::list::Children;
@@ -28,8 +28,8 @@ pub struct Arena {
     arms: Vec<Arm>,
     arguments: Vec<Argument>,
     fields: Vec<FieldPattern>,
-    ghost fit: { fit.AreFit (built.all_lists numbers.items arms.items arguments.items fields.items) nodes.items } by { fit.AreFit-prop (built.all_lists numbers.items arms.items arguments.items fields.items) nodes.items },
-    ghost few: { length nodes.items ≤ 67108864 },
+    ghost fit: { fits.AreFit (built.all_lists numbers.items arms.items arguments.items fields.items) nodes.items } by { fits.AreFit-prop (built.all_lists numbers.items arms.items arguments.items fields.items) nodes.items },
+    ghost few: { length nodes.items ≤ fits.most_nodes },
 }
 
 impl Arena {
@@ -51,7 +51,7 @@ impl Arena {
     /// How many nodes there are.
     pub fn len(&self) -> usize
         ensures count { result ≡ view.count self.now }
-        ensures few { result ≤ 67108864 }
+        ensures few { result ≤ view.most_nodes }
     {
         self.nodes.len()
     }
@@ -134,9 +134,10 @@ impl Arena {
     /// Adds a node, and gives its number. Where there are as many nodes as there may be, it wants memory too, and takes
     /// none. After want of memory all is as it was.
     fn push(&mut self, start: u32, place: u32, form: Form) -> Result<u32, AllocError>
-        requires { fit.Fits (view.lists_of self.old) (view.count self.old) form }
+        requires { fits.Fits (view.lists_of self.old) (view.count self.old) form }
         ensures number { IfOk result (λ n. n ≡ view.count self.old) }
         ensures count { OnOk result (view.count self.new ≡ view.count self.old + 1) }
+        ensures room { OnOk result (view.count self.old < view.most_nodes) }
         ensures items { OnOk result (view.items_of self.new ≡ view.items_of self.old
             ++ built.grow (view.lists_of self.old) (view.items_of self.old) (built.spot (view.count self.old) start place) form ∷ []) }
         ensures lists { view.lists_of self.new ≡ view.lists_of self.old }
@@ -157,6 +158,7 @@ impl Arena {
         requires { view.ExprStands self.old (view.count self.old) expr }
         ensures number { IfOk result (λ n. n ≡ view.count self.old) }
         ensures count { OnOk result (view.count self.new ≡ view.count self.old + 1) }
+        ensures room { OnOk result (view.count self.old < view.most_nodes) }
         ensures made { IfOk result (λ n. view.term self.new n ≡ view.expr_tree self.old n start place expr) }
         ensures unchanged { OnErr result (view.IsSame self.old self.new) }
         ensures keeps { view.Keeps self.old self.new }
@@ -176,6 +178,7 @@ impl Arena {
         requires { view.PatternStands self.old (view.count self.old) pattern }
         ensures number { IfOk result (λ n. n ≡ view.count self.old) }
         ensures count { OnOk result (view.count self.new ≡ view.count self.old + 1) }
+        ensures room { OnOk result (view.count self.old < view.most_nodes) }
         ensures made { IfOk result (λ n. view.pat self.new n ≡ view.pattern_tree self.old n start place pattern) }
         ensures unchanged { OnErr result (view.IsSame self.old self.new) }
         ensures keeps { view.Keeps self.old self.new }
@@ -195,6 +198,7 @@ impl Arena {
         requires { view.WrittenStands self.old (view.count self.old) written }
         ensures number { IfOk result (λ n. n ≡ view.count self.old) }
         ensures count { OnOk result (view.count self.new ≡ view.count self.old + 1) }
+        ensures room { OnOk result (view.count self.old < view.most_nodes) }
         ensures made { IfOk result (λ n. view.written self.new n ≡ view.written_tree self.old n start place written) }
         ensures unchanged { OnErr result (view.IsSame self.old self.new) }
         ensures keeps { view.Keeps self.old self.new }
@@ -214,6 +218,7 @@ impl Arena {
         requires { parameter.annotation < view.count self.old }
         ensures number { IfOk result (λ n. n ≡ view.count self.old) }
         ensures count { OnOk result (view.count self.new ≡ view.count self.old + 1) }
+        ensures room { OnOk result (view.count self.old < view.most_nodes) }
         ensures made { IfOk result (λ n. view.parameter self.new n ≡ view.parameter_tree self.old n start place parameter) }
         ensures unchanged { OnErr result (view.IsSame self.old self.new) }
         ensures keeps { view.Keeps self.old self.new }
@@ -228,6 +233,7 @@ impl Arena {
         requires { view.MethodStands self.old (view.count self.old) method }
         ensures number { IfOk result (λ n. n ≡ view.count self.old) }
         ensures count { OnOk result (view.count self.new ≡ view.count self.old + 1) }
+        ensures room { OnOk result (view.count self.old < view.most_nodes) }
         ensures made { IfOk result (λ n. view.method self.new n ≡ view.method_tree self.old n start place method) }
         ensures unchanged { OnErr result (view.IsSame self.old self.new) }
         ensures keeps { view.Keeps self.old self.new }
