@@ -1,0 +1,5 @@
+pub mod Grown
+pub mod Readers
+pub mod Lists
+pub mod Fitting
+pub mod Runs

@@ -1,0 +1,10 @@
+pub mod Trees
+pub mod Built
+pub mod Fits
+pub mod Kept
+pub mod Reads
+pub mod Views
+pub mod Numbers
+pub mod Runs
+pub mod Work
+pub mod Modules
