@@ -9,7 +9,7 @@ use Rattle.ink_grammar.specs.declared.symbol.Symbol.{Symbol}
 use Rattle.ink_grammar.specs.Grammar.{rules}
 use Rattle.ink_grammar.specs.Tree.{Found, leaf, no_items, node_one, node_four}
 use Rattle.ink_grammar.specs.Reads.{Among, Derives, by, Reads, done, token, at_place, part, make}
-use Rattle.ink_grammar.specs.Productions.{Is, is_module, is_imports_1, is_imports_2, is_import, is_import_path_1, is_import_path_2, is_import_names_1, is_import_names_2, is_import_name_1, is_import_name_2, is_import_names_rest_1, is_import_names_rest_2, is_import_names_more_1, is_import_names_more_2, is_declarations_1, is_declarations_2, is_declaration_1, is_declaration_2, is_declaration_3, is_declaration_4, is_type_form_1, is_type_form_2, is_type_form_3, is_object_form, is_object_members_1, is_object_members_2, is_object_members_3, is_enum_members_1, is_enum_members_2, is_enum_members_3, is_field_declaration, is_constructor, is_trait_methods_1, is_trait_methods_2, is_trait_method, is_implemented_trait_1, is_implemented_trait_2, is_optional_pub_1, is_optional_pub_2, is_optional_async_1, is_optional_async_2, is_optional_mut_1, is_optional_mut_2, is_method_kind_1, is_method_kind_2, is_method_kind_3, is_method_kind_4, is_trait_method_kind_1, is_trait_method_kind_2, is_trait_method_kind_3, is_methods_1, is_methods_2, is_method, is_parameters_1, is_parameters_2, is_parameters_more_1, is_parameters_more_2, is_parameters_rest_1, is_parameters_rest_2, is_parameter, is_method_result_1, is_method_result_2, is_full_type_1, is_full_type_2, is_bare_type_1, is_bare_type_2, is_tuple_type_rest_1, is_tuple_type_rest_2, is_type_arguments_1, is_type_arguments_2, is_type_arguments_rest_1, is_type_arguments_rest_2, is_type_arguments_more_1, is_type_arguments_more_2, is_type_parameters_1, is_type_parameters_2, is_type_parameters_rest_1, is_type_parameters_rest_2, is_type_parameters_more_1, is_type_parameters_more_2, is_type_parameter, is_bounds_1, is_bounds_2, is_bounds_rest_1, is_bounds_rest_2, is_constructor_types_1, is_constructor_types_2, is_constructor_types_rest_1, is_constructor_types_rest_2, is_constructor_types_more_1, is_constructor_types_more_2, is_block, is_statements_1, is_statements_2, is_more_statements_1, is_more_statements_2, is_statement_1, is_statement_2, is_mutable_1, is_mutable_2, is_let_name_1, is_let_name_2, is_let_type_1, is_let_type_2, is_expression_1, is_expression_2, is_jump_1, is_jump_2, is_jump_3, is_return_rest_1, is_return_rest_2, is_after_operand_1, is_after_operand_2, is_chain, is_chain_rest_1, is_chain_rest_2, is_unnamed_expression_1, is_unnamed_expression_2, is_conditional, is_else_rest_1, is_else_rest_2, is_else_branch_1, is_else_branch_2, is_arms_1, is_arms_2, is_arm, is_guard_1, is_guard_2, is_arm_value_1, is_arm_value_2, is_operand_1, is_operand_2, is_unnamed_operand_1, is_unnamed_operand_2, is_unnamed_operand_3, is_unnamed_operand_4, is_unnamed_operand_5, is_recover_rest_1, is_recover_rest_2, is_name_rest_1, is_name_rest_2, is_links_1, is_links_2, is_link_1, is_link_2, is_link_rest_1, is_link_rest_2, is_constant_rest_1, is_constant_rest_2, is_constant_rest_3, is_after_constant_1, is_after_constant_2, is_qualified_rest_1, is_qualified_rest_2, is_primary_1, is_primary_2, is_primary_3, is_primary_4, is_primary_5, is_primary_6, is_primary_7, is_primary_8, is_text_rest_1, is_text_rest_2, is_text_rest_3, is_parenthesis_rest_1, is_parenthesis_rest_2, is_tuple_rest_1, is_tuple_rest_2, is_items_1, is_items_2, is_items_rest_1, is_items_rest_2, is_arguments_1, is_arguments_2, is_arguments_rest_1, is_arguments_rest_2, is_constructor_arguments_1, is_constructor_arguments_2, is_constructor_arguments_3, is_named_or_not_1, is_named_or_not_2, is_named_rest_1, is_named_rest_2, is_named_more_1, is_named_more_2, is_pattern, is_alternative_1, is_alternative_2, is_alternative_3, is_alternative_4, is_alternative_5, is_alternative_6, is_pattern_rest_1, is_pattern_rest_2, is_pattern_text_rest_1, is_pattern_text_rest_2, is_constructor_pattern_rest_1, is_constructor_pattern_rest_2, is_patterns_rest_1, is_patterns_rest_2, is_patterns_more_1, is_patterns_more_2, is_tuple_pattern_rest_1, is_tuple_pattern_rest_2, is_field_pattern, is_field_patterns_rest_1, is_field_patterns_rest_2, is_field_patterns_more_1, is_field_patterns_more_2}
+use Rattle.ink_grammar.specs.Productions.{Is, is_module, is_imports_1, is_imports_2, is_import, is_import_path_1, is_import_path_2, is_import_names_1, is_import_names_2, is_import_name_1, is_import_name_2, is_import_names_rest_1, is_import_names_rest_2, is_import_names_more_1, is_import_names_more_2, is_declarations_1, is_declarations_2, is_declaration_1, is_declaration_2, is_declaration_3, is_declaration_4, is_type_form_1, is_type_form_2, is_type_form_3, is_object_form, is_object_members_1, is_object_members_2, is_object_members_3, is_enum_members_1, is_enum_members_2, is_enum_members_3, is_field_declaration, is_constructor, is_trait_methods_1, is_trait_methods_2, is_trait_method, is_implemented_trait_1, is_implemented_trait_2, is_optional_pub_1, is_optional_pub_2, is_optional_async_1, is_optional_async_2, is_optional_mut_1, is_optional_mut_2, is_method_kind_1, is_method_kind_2, is_method_kind_3, is_method_kind_4, is_trait_method_kind_1, is_trait_method_kind_2, is_trait_method_kind_3, is_methods_1, is_methods_2, is_method, is_parameters_1, is_parameters_2, is_parameters_more_1, is_parameters_more_2, is_parameters_rest_1, is_parameters_rest_2, is_parameter, is_method_result_1, is_method_result_2, is_full_type_1, is_full_type_2, is_bare_type_1, is_bare_type_2, is_tuple_type_rest_1, is_tuple_type_rest_2, is_type_arguments_1, is_type_arguments_2, is_type_arguments_rest_1, is_type_arguments_rest_2, is_type_arguments_more_1, is_type_arguments_more_2, is_type_parameters_1, is_type_parameters_2, is_type_parameters_rest_1, is_type_parameters_rest_2, is_type_parameters_more_1, is_type_parameters_more_2, is_type_parameter, is_bounds_1, is_bounds_2, is_bounds_rest_1, is_bounds_rest_2, is_constructor_types_1, is_constructor_types_2, is_constructor_types_rest_1, is_constructor_types_rest_2, is_constructor_types_more_1, is_constructor_types_more_2, is_block, is_statements_1, is_statements_2, is_more_statements_1, is_more_statements_2, is_statement_1, is_statement_2, is_mutable_1, is_mutable_2, is_let_name_1, is_let_name_2, is_let_type_1, is_let_type_2, is_expression_1, is_expression_2, is_jump_1, is_jump_2, is_jump_3, is_return_rest_1, is_return_rest_2, is_after_operand_1, is_after_operand_2, is_chain, is_chain_rest_1, is_chain_rest_2, is_chain_rest_3, is_unnamed_expression_1, is_unnamed_expression_2, is_conditional, is_else_rest_1, is_else_rest_2, is_else_branch_1, is_else_branch_2, is_arms_1, is_arms_2, is_arm, is_guard_1, is_guard_2, is_arm_value_1, is_arm_value_2, is_operand_1, is_operand_2, is_unnamed_operand_1, is_unnamed_operand_2, is_unnamed_operand_3, is_unnamed_operand_4, is_unnamed_operand_5, is_recover_rest_1, is_recover_rest_2, is_name_rest_1, is_name_rest_2, is_links_1, is_links_2, is_link_1, is_link_2, is_link_rest_1, is_link_rest_2, is_constant_rest_1, is_constant_rest_2, is_constant_rest_3, is_after_constant_1, is_after_constant_2, is_qualified_rest_1, is_qualified_rest_2, is_primary_1, is_primary_2, is_primary_3, is_primary_4, is_primary_5, is_primary_6, is_primary_7, is_primary_8, is_text_rest_1, is_text_rest_2, is_text_rest_3, is_parenthesis_rest_1, is_parenthesis_rest_2, is_tuple_rest_1, is_tuple_rest_2, is_items_1, is_items_2, is_items_rest_1, is_items_rest_2, is_arguments_1, is_arguments_2, is_arguments_rest_1, is_arguments_rest_2, is_constructor_arguments_1, is_constructor_arguments_2, is_constructor_arguments_3, is_named_or_not_1, is_named_or_not_2, is_named_rest_1, is_named_rest_2, is_named_more_1, is_named_more_2, is_pattern, is_alternative_1, is_alternative_2, is_alternative_3, is_alternative_4, is_alternative_5, is_alternative_6, is_pattern_rest_1, is_pattern_rest_2, is_pattern_text_rest_1, is_pattern_text_rest_2, is_constructor_pattern_rest_1, is_constructor_pattern_rest_2, is_patterns_rest_1, is_patterns_rest_2, is_patterns_more_1, is_patterns_more_2, is_tuple_pattern_rest_1, is_tuple_pattern_rest_2, is_field_pattern, is_field_patterns_rest_1, is_field_patterns_rest_2, is_field_patterns_more_1, is_field_patterns_more_2}
 use Rattle.ink_grammar.proofs.Meaning.{takes, After, after_map, Means}
 use Rattle.ink_grammar.proofs.ModuleCases.{module_rule}
 use Rattle.ink_grammar.proofs.MethodCases.{method_rule}
@@ -135,7 +135,8 @@ from (is_after_operand_1 {a = a} t0 u0 v0 h0 h1 h2 h3) vs = by (inl refl) (at_pl
 from (is_after_operand_2 {a = a} u0 v0 h0) vs = by (inr (inl refl)) (part (from h0 vs) tt done (sym (append-nil u0)))
 from (is_chain u0 v0 u1 v1 h0 h1) vs = by (inl refl) (part (from h0 vs) tt (part (from h1 vs) tt done (sym (append-nil u1))) refl)
 from (is_chain_rest_1 {a = a} t0 u0 v0 u1 v1 h0 h1 h2 h3) vs = by (inl refl) (token h0 h1 (part (from h2 (leaf t0 ∷ a ∷ vs)) tt (make (part (from h3 vs) tt done (sym (append-nil u1)))) refl))
-from (is_chain_rest_2 {a = a}) vs = by (inr (inl refl)) done
+from (is_chain_rest_2 {a = a} t0 u0 v0 u1 v1 h0 h1 h2 h3) vs = by (inr (inl refl)) (token h0 h1 (part (from h2 (leaf t0 ∷ a ∷ vs)) tt (make (make (part (from h3 vs) tt done (sym (append-nil u1))))) refl))
+from (is_chain_rest_3 {a = a}) vs = by (inr (inr (inl refl))) done
 from (is_unnamed_expression_1 u0 v0 h0) vs = by (inl refl) (part (from h0 vs) tt done (sym (append-nil u0)))
 from (is_unnamed_expression_2 u0 v0 u1 v1 h0 h1) vs = by (inr (inl refl)) (part (from h0 vs) tt (part (from h1 vs) tt done (sym (append-nil u1))) refl)
 from (is_conditional t0 u0 v0 u1 v1 u2 v2 h0 h1 h2 h3) vs = by (inl refl) (token refl h0 (part (from h1 (leaf t0 ∷ vs)) tt (make (part (from h2 (node_one one_of.Statement v0 ∷ leaf t0 ∷ vs)) tt (part (from h3 vs) tt done (sym (append-nil u2))) refl)) refl))

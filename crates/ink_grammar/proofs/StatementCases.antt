@@ -13,7 +13,7 @@ use Rattle.ink_grammar.specs.declared.symbol.Symbol.{Symbol}
 use Rattle.ink_grammar.specs.Grammar.{statement_rules}
 use Rattle.ink_grammar.specs.Tree.{Found, leaf, nothing, node_one, node_two, node_three, node_four, node_five}
 use Rattle.ink_grammar.specs.Reads.{Among}
-use Rattle.ink_grammar.specs.Productions.{Is, is_block, is_statements_1, is_statements_2, is_more_statements_1, is_more_statements_2, is_statement_1, is_statement_2, is_mutable_1, is_mutable_2, is_let_name_1, is_let_name_2, is_let_type_1, is_let_type_2, is_expression_1, is_expression_2, is_jump_1, is_jump_2, is_jump_3, is_return_rest_1, is_return_rest_2, is_after_operand_1, is_after_operand_2, is_chain, is_chain_rest_1, is_chain_rest_2, is_unnamed_expression_1, is_unnamed_expression_2, is_conditional, is_else_rest_1, is_else_rest_2, is_else_branch_1, is_else_branch_2, is_arms_1, is_arms_2, is_arm, is_guard_1, is_guard_2, is_arm_value_1, is_arm_value_2}
+use Rattle.ink_grammar.specs.Productions.{Is, is_block, is_statements_1, is_statements_2, is_more_statements_1, is_more_statements_2, is_statement_1, is_statement_2, is_mutable_1, is_mutable_2, is_let_name_1, is_let_name_2, is_let_type_1, is_let_type_2, is_expression_1, is_expression_2, is_jump_1, is_jump_2, is_jump_3, is_return_rest_1, is_return_rest_2, is_after_operand_1, is_after_operand_2, is_chain, is_chain_rest_1, is_chain_rest_2, is_chain_rest_3, is_unnamed_expression_1, is_unnamed_expression_2, is_conditional, is_else_rest_1, is_else_rest_2, is_else_branch_1, is_else_branch_2, is_arms_1, is_arms_2, is_arm, is_guard_1, is_guard_2, is_arm_value_1, is_arm_value_2}
 use Rattle.ink_grammar.proofs.Samples.{nth}
 use Rattle.ink_grammar.proofs.Meaning.{After, Means}
 
@@ -198,8 +198,18 @@ rule_is_chain_rest_1 a vs ts fin m =
 
 rule_is_chain_rest_2 : (a : Found) (vs : List Found) (ts : List Terminal) (fin : List Found) → Means (nth 1 (statement_rules statement_of.ChainRest)) (a ∷ vs) ts fin → After (part_of.Statement statement_of.ChainRest) (a ∷ vs) ts (λ z. fin ≡ z)
 rule_is_chain_rest_2 a vs ts fin m =
+    let t0 = m.0 in
+    let u0 = m.5.0 in
+    let v0 = m.5.4.0 in
+    let u1 = m.5.4.2.0 in
+    let v1 = m.5.4.2.4.0 in
+    let e : ts ≡ t0 ∷ (u0 ++ u1) = m.2 ∙ ap (λ z. t0 ∷ z) (m.5.2 ∙ ap (λ z. u0 ++ z) (m.5.4.2.2 ∙ ap (λ z. u1 ++ z) m.5.4.2.4.2.0 ∙ append-nil u1)) in
+    (v1, subst (λ z. Is (part_of.Statement statement_of.ChainRest) (a ∷ []) z v1) (sym e) (is_chain_rest_2 t0 u0 v0 u1 v1 m.3 m.4 m.5.4.1 m.5.4.2.4.1), m.5.4.2.4.2.1)
+
+rule_is_chain_rest_3 : (a : Found) (vs : List Found) (ts : List Terminal) (fin : List Found) → Means (nth 2 (statement_rules statement_of.ChainRest)) (a ∷ vs) ts fin → After (part_of.Statement statement_of.ChainRest) (a ∷ vs) ts (λ z. fin ≡ z)
+rule_is_chain_rest_3 a vs ts fin m =
     let e : ts ≡ [] = m.0 in
-    (a, subst (λ z. Is (part_of.Statement statement_of.ChainRest) (a ∷ []) z a) (sym e) is_chain_rest_2, m.1)
+    (a, subst (λ z. Is (part_of.Statement statement_of.ChainRest) (a ∷ []) z a) (sym e) is_chain_rest_3, m.1)
 
 rule_is_unnamed_expression_1 : (vs : List Found) (ts : List Terminal) (fin : List Found) → Means (nth 0 (statement_rules statement_of.UnnamedExpression)) (vs) ts fin → After (part_of.Statement statement_of.UnnamedExpression) (vs) ts (λ z. fin ≡ z)
 rule_is_unnamed_expression_1 vs ts fin m =
@@ -352,7 +362,8 @@ statement_rule statement_of.Chain r vs ts fin (inl e) m = rule_is_chain vs ts fi
 statement_rule statement_of.Chain r vs ts fin (inr e) m = elim e [ ]
 statement_rule statement_of.ChainRest r (a ∷ vs) ts fin (inl e) m = rule_is_chain_rest_1 a vs ts fin (subst (λ z. Means z (a ∷ vs) ts fin) e m)
 statement_rule statement_of.ChainRest r (a ∷ vs) ts fin (inr (inl e)) m = rule_is_chain_rest_2 a vs ts fin (subst (λ z. Means z (a ∷ vs) ts fin) e m)
-statement_rule statement_of.ChainRest r (a ∷ vs) ts fin (inr (inr e)) m = elim e [ ]
+statement_rule statement_of.ChainRest r (a ∷ vs) ts fin (inr (inr (inl e))) m = rule_is_chain_rest_3 a vs ts fin (subst (λ z. Means z (a ∷ vs) ts fin) e m)
+statement_rule statement_of.ChainRest r (a ∷ vs) ts fin (inr (inr (inr e))) m = elim e [ ]
 statement_rule statement_of.ChainRest r [] ts fin h m = tt
 statement_rule statement_of.UnnamedExpression r vs ts fin (inl e) m = rule_is_unnamed_expression_1 vs ts fin (subst (λ z. Means z vs ts fin) e m)
 statement_rule statement_of.UnnamedExpression r vs ts fin (inr (inl e)) m = rule_is_unnamed_expression_2 vs ts fin (subst (λ z. Means z vs ts fin) e m)

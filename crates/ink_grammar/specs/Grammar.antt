@@ -281,6 +281,7 @@ statement_rules statement_of.AfterOperand =
 statement_rules statement_of.Chain = (operand_part operand_of.Operand ∷ statement_part statement_of.ChainRest ∷ []) ∷ []
 statement_rules statement_of.ChainRest =
     (of.Token line.Same wanted.Operator ∷ operand_part operand_of.Operand ∷ three three_of.Binary ∷ statement_part statement_of.ChainRest ∷ []) ∷
+    (of.Token line.Same wanted.Logical ∷ operand_part operand_of.Operand ∷ one one_of.Statement ∷ three three_of.Binary ∷ statement_part statement_of.ChainRest ∷ []) ∷
     [] ∷ []
 statement_rules statement_of.UnnamedExpression =
     (statement_part statement_of.Jump ∷ []) ∷
@@ -572,6 +573,10 @@ begins_jump x = same (shape.Keyword keyword.Return) x || same (shape.Keyword key
 abbrev pub begins_operand : Shape → Bool
 begins_operand x = same shape.Name x || begins_unnamed_operand x
 
+-- which tokens may go on a chain of operands
+abbrev pub goes_on_a_chain : Shape → Bool
+goes_on_a_chain x = is wanted.Operator x || is wanted.Logical x
+
 -- what may begin an expression
 abbrev pub begins_expression : Shape → Bool
 begins_expression x = begins_jump x || begins_operand x
@@ -659,9 +664,9 @@ statement_begins statement_of.LetType x new_line = same (shape.Mark mark.Colon) 
 statement_begins statement_of.Expression x new_line = begins_expression x
 statement_begins statement_of.Jump x new_line = begins_jump x
 statement_begins statement_of.ReturnRest x new_line = not new_line && begins_expression x
-statement_begins statement_of.AfterOperand x new_line = not new_line && (is wanted.Setter x || is wanted.Operator x)
+statement_begins statement_of.AfterOperand x new_line = not new_line && (is wanted.Setter x || goes_on_a_chain x)
 statement_begins statement_of.Chain x new_line = begins_operand x
-statement_begins statement_of.ChainRest x new_line = not new_line && is wanted.Operator x
+statement_begins statement_of.ChainRest x new_line = not new_line && goes_on_a_chain x
 statement_begins statement_of.UnnamedExpression x new_line = begins_unnamed_expression x
 statement_begins statement_of.Conditional x new_line = same (shape.Keyword keyword.If) x
 statement_begins statement_of.ElseRest x new_line = same (shape.Keyword keyword.Else) x
@@ -692,7 +697,7 @@ operand_begins operand_of.ItemsRest x new_line = same (shape.Mark mark.RightBrac
 operand_begins operand_of.Arguments x new_line = same (shape.Mark mark.RightParen) x || begins_expression x
 operand_begins operand_of.ArgumentsRest x new_line = same (shape.Mark mark.RightParen) x || same (shape.Mark mark.Comma) x
 operand_begins operand_of.ConstructorArguments x new_line = same (shape.Mark mark.RightParen) x || same shape.Name x || begins_unnamed_expression x
-operand_begins operand_of.NamedOrNot x new_line = same (shape.Mark mark.Colon) x || same (shape.Mark mark.Dot) x || same (shape.Mark mark.RightParen) x || same (shape.Mark mark.Comma) x || (not new_line && (same (shape.Mark mark.LeftParen) x || is wanted.Setter x || is wanted.Operator x))
+operand_begins operand_of.NamedOrNot x new_line = same (shape.Mark mark.Colon) x || same (shape.Mark mark.Dot) x || same (shape.Mark mark.RightParen) x || same (shape.Mark mark.Comma) x || (not new_line && (same (shape.Mark mark.LeftParen) x || is wanted.Setter x || goes_on_a_chain x))
 operand_begins operand_of.NamedRest x new_line = same (shape.Mark mark.RightParen) x || same (shape.Mark mark.Comma) x
 operand_begins operand_of.NamedMore x new_line = same (shape.Mark mark.RightParen) x || same shape.Name x
 

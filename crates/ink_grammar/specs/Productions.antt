@@ -163,7 +163,8 @@ pub data Is : Nonterminal → List Found → List Terminal → Found → Type 0 
   is_after_operand_2 : {a : Found} (u0 : List Terminal) (v0 : Found) → Is ChainRest (a ∷ []) u0 v0 → Is AfterOperand (a ∷ []) u0 v0
   is_chain : (u0 : List Terminal) (v0 : Found) (u1 : List Terminal) (v1 : Found) → Is Operand [] u0 v0 → Is ChainRest (v0 ∷ []) u1 v1 → Is Chain [] (u0 ++ u1) v1
   is_chain_rest_1 : {a : Found} (t0 : Terminal) (u0 : List Terminal) (v0 : Found) (u1 : List Terminal) (v1 : Found) → StandsOn line.Same t0 → IsOneOf wanted.Operator t0 → Is Operand [] u0 v0 → Is ChainRest (node_three three_of.Binary a (leaf t0) v0 ∷ []) u1 v1 → Is ChainRest (a ∷ []) (t0 ∷ (u0 ++ u1)) v1
-  is_chain_rest_2 : {a : Found} → Is ChainRest (a ∷ []) [] a
+  is_chain_rest_2 : {a : Found} (t0 : Terminal) (u0 : List Terminal) (v0 : Found) (u1 : List Terminal) (v1 : Found) → StandsOn line.Same t0 → IsOneOf wanted.Logical t0 → Is Operand [] u0 v0 → Is ChainRest (node_three three_of.Binary a (leaf t0) (node_one one_of.Statement v0) ∷ []) u1 v1 → Is ChainRest (a ∷ []) (t0 ∷ (u0 ++ u1)) v1
+  is_chain_rest_3 : {a : Found} → Is ChainRest (a ∷ []) [] a
   is_unnamed_expression_1 : (u0 : List Terminal) (v0 : Found) → Is Jump [] u0 v0 → Is UnnamedExpression [] u0 v0
   is_unnamed_expression_2 : (u0 : List Terminal) (v0 : Found) (u1 : List Terminal) (v1 : Found) → Is UnnamedOperand [] u0 v0 → Is AfterOperand (v0 ∷ []) u1 v1 → Is UnnamedExpression [] (u0 ++ u1) v1
   is_conditional : (t0 : Terminal) (u0 : List Terminal) (v0 : Found) (u1 : List Terminal) (v1 : Found) (u2 : List Terminal) (v2 : Found) → IsWord keyword.If t0 → Is Chain [] u0 v0 → Is Block [] u1 v1 → Is ElseRest (v1 ∷ node_one one_of.Statement v0 ∷ leaf t0 ∷ []) u2 v2 → Is Conditional [] (t0 ∷ (u0 ++ (u1 ++ u2))) v2

@@ -92,9 +92,13 @@ is_atom x = same shape.Integer x || same shape.Hexadecimal x || same shape.Field
 abbrev pub is_pattern_atom : Shape → Bool
 is_pattern_atom x = same shape.Underscore x || same shape.Integer x || same shape.Hexadecimal x || same shape.Name x || same (shape.Keyword keyword.True) x || same (shape.Keyword keyword.False) x
 
--- what stands between two operands
+-- what stands between two operands, but for `and` and `or`
 abbrev pub is_operator : Shape → Bool
-is_operator x = same (shape.Mark mark.Operator) x || same (shape.Mark mark.Plus) x || same (shape.Keyword keyword.And) x || same (shape.Keyword keyword.Or) x
+is_operator x = same (shape.Mark mark.Operator) x || same (shape.Mark mark.Plus) x
+
+-- `and` or `or` between two operands, of which the right one counts as a statement
+abbrev pub is_logical : Shape → Bool
+is_logical x = same (shape.Keyword keyword.And) x || same (shape.Keyword keyword.Or) x
 
 -- what stands behind a place that is set
 abbrev pub is_setter : Shape → Bool
@@ -125,6 +129,7 @@ is (wanted.Word w) x = same w x
 is wanted.Atom x = is_atom x
 is wanted.PatternAtom x = is_pattern_atom x
 is wanted.Operator x = is_operator x
+is wanted.Logical x = is_logical x
 is wanted.Setter x = is_setter x
 is wanted.BorrowWord x = is_borrow_word x
 is wanted.TypePrefix x = is_type_prefix x

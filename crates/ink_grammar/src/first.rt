@@ -46,6 +46,13 @@ pub fn begins_operand(shape: Shape) -> bool
     same(shape::NAME, shape) || begins_unnamed_operand(shape)
 }
 
+/// Whether a token of this shape may go on a chain of operands.
+pub fn goes_on_a_chain(shape: Shape) -> bool
+    ensures { result ≡ spec.goes_on_a_chain shape }
+{
+    is(Wanted::Operator, shape) || is(Wanted::Logical, shape)
+}
+
 /// Whether a token of this shape may begin an expression.
 pub fn begins_expression(shape: Shape) -> bool
     ensures { result ≡ spec.begins_expression shape }

@@ -7,7 +7,7 @@ ghost use Rattle.ink_grammar.specs.declared.symbol.OperandPart.TheVariants.{Name
 
 use crate::first::{
     begins_expression, begins_operand, begins_primary, begins_unnamed_expression,
-    begins_unnamed_operand,
+    begins_unnamed_operand, goes_on_a_chain,
 };
 use crate::names::{action, part, token};
 use crate::shape;
@@ -281,7 +281,7 @@ fn begins_named_or_not(shape: Shape, new_line: bool) -> bool
         || (!new_line
             && (same(shape::LEFT_PAREN, shape)
                 || is(Wanted::Setter, shape)
-                || is(Wanted::Operator, shape)))
+                || goes_on_a_chain(shape)))
 }
 
 /// Whether the part may begin with a token of this shape.

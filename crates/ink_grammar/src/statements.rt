@@ -6,6 +6,7 @@ ghost use Rattle.ink_grammar.specs.Grammar as spec;
 
 use crate::first::{
     begins_expression, begins_jump, begins_operand, begins_statement, begins_unnamed_expression,
+    goes_on_a_chain,
 };
 use crate::names::{action, part, token};
 use crate::shape;
@@ -74,6 +75,13 @@ const CHAIN_REST: &[&[Symbol]] = &[
     &[
         token::SAME_LINE_OPERATOR,
         part::OPERAND,
+        action::BINARY,
+        part::CHAIN_REST,
+    ],
+    &[
+        token::SAME_LINE_LOGICAL,
+        part::OPERAND,
+        action::STATEMENT,
         action::BINARY,
         part::CHAIN_REST,
     ],
@@ -192,9 +200,9 @@ pub fn begins(part: StatementPart, shape: Shape, new_line: bool) -> bool
         StatementPart::Jump => begins_jump(shape),
         StatementPart::ReturnRest => !new_line && begins_expression(shape),
         StatementPart::AfterOperand => !new_line
-            && (is(Wanted::Setter, shape) || is(Wanted::Operator, shape)),
+            && (is(Wanted::Setter, shape) || goes_on_a_chain(shape)),
         StatementPart::Chain => begins_operand(shape),
-        StatementPart::ChainRest => !new_line && is(Wanted::Operator, shape),
+        StatementPart::ChainRest => !new_line && goes_on_a_chain(shape),
         StatementPart::UnnamedExpression => begins_unnamed_expression(shape),
         StatementPart::Conditional => same(shape::IF, shape),
         StatementPart::ElseRest => same(shape::ELSE, shape),

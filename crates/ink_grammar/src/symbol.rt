@@ -30,8 +30,10 @@ pub enum Wanted {
     Atom,
     /// A whole pattern: `_`, an integer, a name, `true` or `false`.
     PatternAtom,
-    /// What stands between two operands.
+    /// What stands between two operands, but for `and` and `or`.
     Operator,
+    /// `and` or `or` between two operands, of which the right one counts as a statement.
+    Logical,
     /// `=`, `:=`, or an operator with `=`.
     Setter,
     /// `ref` or `mut` before an operand.
@@ -241,10 +243,13 @@ fn is_pattern_atom(found: Shape) -> bool
 fn is_operator(found: Shape) -> bool
     ensures { result ≡ spec.is_operator found }
 {
-    same(shape::OPERATOR, found)
-        || same(shape::PLUS, found)
-        || same(shape::AND, found)
-        || same(shape::OR, found)
+    same(shape::OPERATOR, found) || same(shape::PLUS, found)
+}
+
+fn is_logical(found: Shape) -> bool
+    ensures { result ≡ spec.is_logical found }
+{
+    same(shape::AND, found) || same(shape::OR, found)
 }
 
 fn is_setter(found: Shape) -> bool
@@ -290,6 +295,7 @@ pub fn is(wanted: Wanted, found: Shape) -> bool
         Wanted::Atom => is_atom(found),
         Wanted::PatternAtom => is_pattern_atom(found),
         Wanted::Operator => is_operator(found),
+        Wanted::Logical => is_logical(found),
         Wanted::Setter => is_setter(found),
         Wanted::BorrowWord => is_borrow_word(found),
         Wanted::TypePrefix => is_type_prefix(found),

@@ -1,5 +1,5 @@
 -- Nothing is too high exactly where the greatest height is within the limit.
-use Rattle.std.proofs.Common.{◌≡◌, ℕ, ◌+◌, ◌<◌, ◌≤◌, ◌↔◌, max, nat_lt, Bool, true, false, Option, Some, None, refl, sym, subst, arith}
+use Rattle.std.proofs.Common.{◌≡◌, ℕ, ◌+◌, ◌-◌, ◌<◌, ◌≤◌, ◌↔◌, max, nat_lt, Bool, true, false, Option, Some, None, refl, sym, subst, arith}
 use Rattle.std.proofs.lemmas.Bool.{ltb-true, ltb-false}
 use Rattle.std.specs.Prelude.{if◌then◌else◌}
 use Rattle.ink_grammar.proofs.Bools.{by_cases}
@@ -13,7 +13,7 @@ use Rattle.ink_heights.specs.declared.counted.Kind.{Kind}
 use Rattle.ink_heights.specs.declared.counted.Kind.TheVariants as kind
 use Rattle.ink_heights.specs.declared.measure.Measure.{Measure}
 use Rattle.ink_heights.specs.Counted.{is_text_part, kind_of_two, first_of_two, second_of_two, is_node_of_three, first_of_three, second_of_three, third_of_three, is_node_of_four, second_of_four, third_of_four, fourth_of_five}
-use Rattle.ink_heights.specs.Measures.{nothing, leaf, least, over, part, place_of, node, node_or_plain, text, alternatives, prefixed, list, two_by, three, four, five}
+use Rattle.ink_heights.specs.Measures.{nothing, leaf, least, over, part, place_of, node, node_or_plain, text, alternatives, choices, prefixed, list, two_by, three, four, five}
 use Rattle.ink_heights.specs.Heights.{measure, height, first_too_high}
 use Rattle.ink_heights.proofs.SameLemmas.{same-measure}
 
@@ -22,7 +22,7 @@ pub record Tells (most : ℕ) (a : Measure) : Type 0 where
   pub low : a.place ≡ None → a.height ≤ most
   pub high : (byte : ℕ) → a.place ≡ Some byte → most < a.height
   pub within : (byte : ℕ) → a.inside ≡ Some byte → most < a.height
-  pub near : a.height ≤ a.alternatives + 1
+  pub parts : a.is_choice ≡ true → (byte : ℕ) → a.inside ≡ Some byte → most < a.height - 1
 
 -- a place is told of a height over the limit alone
 abbrev Tops : ℕ → Option ℕ → ℕ → Type 0
@@ -63,20 +63,20 @@ tells-nothing most = record {
   low = λ is. omega arith;
   high = λ byte is. let no : ⊥ = cc in absurd no;
   within = λ byte is. let no : ⊥ = cc in absurd no;
-  near = omega arith;
+  parts = λ choice byte is. let no : ⊥ = cc in absurd no;
 }
 
 tells-leaf : (most : ℕ) (shape : Shape) → 1 ≤ most → Tells most (leaf shape)
 unfolding leaf
 tells-leaf most shape some =
     by_cases (is_text_part shape)
-    (λ e. subst (λ b. Tells most (if b then nothing else record { height = 1; items = 0; alternatives = 1; inside = None; place = None })) (sym e) (tells-nothing most))
-    (λ e. subst (λ b. Tells most (if b then nothing else record { height = 1; items = 0; alternatives = 1; inside = None; place = None })) (sym e)
+    (λ e. subst (λ b. Tells most (if b then nothing else record { height = 1; items = 0; is_choice = false; inside = None; place = None })) (sym e) (tells-nothing most))
+    (λ e. subst (λ b. Tells most (if b then nothing else record { height = 1; items = 0; is_choice = false; inside = None; place = None })) (sym e)
     (record {
       low = λ is. some;
       high = λ byte is. let no : ⊥ = cc in absurd no;
       within = λ byte is. let no : ⊥ = cc in absurd no;
-      near = omega arith;
+      parts = λ choice byte is. let no : ⊥ = cc in absurd no;
     }))
 
 tells-over : (most : ℕ) (a b : Measure) → Tells most a → Tells most b → Tells most (over a b)
@@ -90,7 +90,7 @@ tells-over most a b first second =
           let other : b.height ≤ most = second.low both.1 in omega arith;
       high = tops;
       within = tops;
-      near = omega arith;
+      parts = λ choice byte is. let no : ⊥ = cc in absurd no;
     }
 
 tells-part : (most : ℕ) (counts : Bool) (a : Measure) → Tells most a → Tells most (part counts a)
@@ -106,7 +106,7 @@ tells-node most start w tops = record {
       place-some most w.place (w.height + 1) start byte
       (λ at there. let high : most < w.height = tops at there in omega arith) is;
   within = λ byte is. let high : most < w.height = tops byte is in omega arith;
-  near = omega arith;
+  parts = λ choice byte is. let no : ⊥ = cc in absurd no;
 }
 
 tells-node_or_plain : (most : ℕ) (is_node : Bool) (start : ℕ) (w : Measure) → Tells most w → Tells most (node_or_plain most is_node start w)
@@ -114,21 +114,24 @@ unfolding node_or_plain
 tells-node_or_plain most true start w tells = tells-node most start w tells.high
 tells-node_or_plain most false start w tells = tells
 
+-- a place is told of the alternatives together where one of them is over the limit
+tops-choices : (most : ℕ) (choice : Bool) (a : Measure) → a.is_choice ≡ choice → Tells most a →
+    let parts = if choice then record a { height = a.height - 1; place = a.inside } else a in Tops most parts.place parts.height
+tops-choices most true a is tells = tells.parts is
+tops-choices most false a is tells = tells.high
+
 tells-alternatives : (most start : ℕ) (a b : Measure) → Tells most a → Tells most b → Tells most (alternatives most start a b)
-unfolding alternatives node over
+unfolding alternatives choices node over
 tells-alternatives most start a b first second =
-    let h = max a.alternatives b.height in
-    let tops : Tops most (least a.place b.place) (h + 1) = λ byte is.
-    let high : most < max (a.alternatives + 1) b.height =
-    tops-least most a.place b.place (a.alternatives + 1) b.height
-    (λ at there. let above : most < a.height = first.high at there in
-    let near : a.height ≤ a.alternatives + 1 = first.near in omega arith)
-    second.high byte is in omega arith in
+    let before = choices a in
+    let h = max before.height b.height in
+    let tops : Tops most (least before.place b.place) h =
+    tops-least most before.place b.place before.height b.height (tops-choices most a.is_choice a refl first) second.high in
     record {
-      low = λ none. place-none most (least a.place b.place) (h + 1) start none;
-      high = λ byte is. place-some most (least a.place b.place) (h + 1) start byte tops is;
-      within = tops;
-      near = omega arith;
+      low = λ none. place-none most (least before.place b.place) (h + 1) start none;
+      high = λ byte is. place-some most (least before.place b.place) (h + 1) start byte (λ at there. let high : most < h = tops at there in omega arith) is;
+      within = λ byte is. let high : most < h = tops byte is in omega arith;
+      parts = λ choice byte is. let high : most < h = tops byte is in omega arith;
     }
 
 tells-within : (most : ℕ) (form : TwoChildren) (a b : Measure) → Tells most a → Tells most b →
@@ -142,7 +145,7 @@ tells-two : (most : ℕ) (kind : Kind) (form : TwoChildren) (start : ℕ) (a b :
 unfolding two_by text prefixed list
 tells-two most kind.List form start a b first second =
     let tells = tells-over most a b first second in
-    record { low = tells.low; high = tells.high; within = tells.within; near = tells.near }
+    record { low = tells.low; high = tells.high; within = tells.within; parts = tells.parts }
 tells-two most kind.Text form start a b first second =
     tells-node most start (record b { height = b.height + b.items })
     (λ byte is. let high : most < b.height = second.high byte is in omega arith)
@@ -151,7 +154,7 @@ tells-two most kind.Prefixed form start a b first second = record {
   low = λ none. place-none most b.inside b.height start none;
   high = λ byte is. place-some most b.inside b.height start byte second.within is;
   within = second.within;
-  near = second.near;
+  parts = second.parts;
 }
 tells-two most kind.Node form start a b first second =
     tells-node most start (over (part (first_of_two form) a) (part (second_of_two form) b)) (tells-within most form a b first second).high

@@ -1,5 +1,6 @@
 -- Heights don't depend on the limit.
-use Rattle.std.proofs.Common.{◌≡◌, ℕ, ◌+◌, max, Bool, true, false, refl}
+use Rattle.std.proofs.Common.{◌≡◌, ℕ, ◌+◌, ◌-◌, max, Bool, true, false, refl}
+use Rattle.std.specs.Prelude.{if◌then◌else◌}
 use Rattle.ink_grammar.specs.declared.tree.TwoChildren.{TwoChildren}
 use Rattle.ink_grammar.specs.declared.tree.ThreeChildren.{ThreeChildren}
 use Rattle.ink_grammar.specs.declared.tree.FourChildren.{FourChildren}
@@ -9,23 +10,23 @@ use Rattle.ink_heights.specs.declared.counted.Kind.{Kind}
 use Rattle.ink_heights.specs.declared.counted.Kind.TheVariants as kind
 use Rattle.ink_heights.specs.declared.measure.Measure.{Measure}
 use Rattle.ink_heights.specs.Counted.{kind_of_two, first_of_two, second_of_two, is_node_of_three, first_of_three, second_of_three, third_of_three, is_node_of_four, second_of_four, third_of_four, fourth_of_five}
-use Rattle.ink_heights.specs.Measures.{nothing, leaf, over, part, node, node_or_plain, text, alternatives, prefixed, list, two_by, three, four, five}
+use Rattle.ink_heights.specs.Measures.{nothing, leaf, over, part, node, node_or_plain, text, alternatives, choices, prefixed, list, two_by, three, four, five}
 use Rattle.ink_heights.specs.Heights.{measure}
 
 -- two measures of the same heights
 pub record Alike (a b : Measure) : Type 0 where
   pub height : a.height ≡ b.height
   pub items : a.items ≡ b.items
-  pub alternatives : a.alternatives ≡ b.alternatives
+  pub is_choice : a.is_choice ≡ b.is_choice
 
 same : (a : Measure) → Alike a a
-same a = record { height = refl; items = refl; alternatives = refl }
+same a = record { height = refl; items = refl; is_choice = refl }
 
 same-over : (a b c d : Measure) → Alike a b → Alike c d → Alike (over a c) (over b d)
 unfolding over
 same-over a b c d first second =
     let height : max a.height c.height ≡ max b.height d.height = cc (first.height, second.height) in
-    record { height = height; items = refl; alternatives = height }
+    record { height = height; items = refl; is_choice = refl }
 
 same-part : (counts : Bool) (a b : Measure) → Alike a b → Alike (part counts a) (part counts b)
 unfolding part
@@ -36,7 +37,7 @@ same-node : (m n start : ℕ) (a b : Measure) → a.height ≡ b.height → Alik
 unfolding node
 same-node m n start a b is =
     let height : a.height + 1 ≡ b.height + 1 = cc in
-    record { height = height; items = refl; alternatives = height }
+    record { height = height; items = refl; is_choice = refl }
 
 same-node_or_plain : (m n : ℕ) (is_node : Bool) (start : ℕ) (a b : Measure) → Alike a b →
     Alike (node_or_plain m is_node start a) (node_or_plain n is_node start b)
@@ -44,29 +45,37 @@ unfolding node_or_plain
 same-node_or_plain m n true start a b alike = same-node m n start a b alike.height
 same-node_or_plain m n false start a b alike = alike
 
+-- the height of the alternatives together
+same-choices : (p q : Bool) (a b : Measure) → p ≡ q → a.height ≡ b.height →
+    (if p then record a { height = a.height - 1; place = a.inside } else a).height ≡ (if q then record b { height = b.height - 1; place = b.inside } else b).height
+same-choices true true a b choice height = cc
+same-choices true false a b choice height = cc
+same-choices false true a b choice height = cc
+same-choices false false a b choice height = height
+
 same-two : (m n : ℕ) (kind : Kind) (form : TwoChildren) (start : ℕ) (a b c d : Measure) → Alike a b → Alike c d →
     Alike (two_by kind m form start a c) (two_by kind n form start b d)
-unfolding two_by text alternatives prefixed list over node
+unfolding two_by text alternatives choices prefixed list over node
 same-two m n kind.List form start a b c d first second =
     record {
       height = cc (first.height, second.height);
       items = cc (first.items);
-      alternatives = cc (first.height, second.height);
+      is_choice = refl;
     }
 same-two m n kind.Text form start a b c d first second =
-    record { height = cc (second.height, second.items); items = refl; alternatives = cc (second.height, second.items) }
+    record { height = cc (second.height, second.items); items = refl; is_choice = refl }
 same-two m n kind.Alternatives form start a b c d first second =
     record {
-      height = cc (first.alternatives, second.height);
+      height = cc (same-choices a.is_choice b.is_choice a b first.is_choice first.height, second.height);
       items = refl;
-      alternatives = cc (first.alternatives, second.height);
+      is_choice = refl;
     }
 same-two m n kind.Prefixed form start a b c d first second =
-    record { height = second.height; items = second.items; alternatives = second.alternatives }
+    record { height = second.height; items = second.items; is_choice = second.is_choice }
 same-two m n kind.Node form start a b c d first second =
     let within = same-over (part (first_of_two form) a) (part (first_of_two form) b) (part (second_of_two form) c) (part (second_of_two form) d)
     (same-part (first_of_two form) a b first) (same-part (second_of_two form) c d second) in
-    record { height = cc (within.height); items = refl; alternatives = cc (within.height) }
+    record { height = cc (within.height); items = refl; is_choice = refl }
 same-two m n kind.Plain form start a b c d first second =
     same-over (part (first_of_two form) a) (part (first_of_two form) b) (part (second_of_two form) c) (part (second_of_two form) d)
     (same-part (first_of_two form) a b first) (same-part (second_of_two form) c d second)

@@ -1,5 +1,5 @@
 -- What is known of a node, by what is known of its children.
-use Rattle.std.specs.Prelude.{ℕ, ◌+◌, Bool, nat_lt, min, max, if◌then◌else◌, Option, None, Some}
+use Rattle.std.specs.Prelude.{ℕ, ◌+◌, ◌-◌, Bool, true, false, nat_lt, min, max, if◌then◌else◌, Option, None, Some}
 use Rattle.ink_grammar.specs.declared.token.Shape.{Shape}
 use Rattle.ink_grammar.specs.declared.tree.TwoChildren.{TwoChildren}
 use Rattle.ink_grammar.specs.declared.tree.ThreeChildren.{ThreeChildren}
@@ -12,13 +12,13 @@ use Rattle.ink_heights.specs.Counted.{is_text_part, kind_of_two, first_of_two, s
 
 -- of nothing
 abbrev pub nothing : Measure
-nothing = record { height = 0; items = 0; alternatives = 0; inside = None; place = None }
+nothing = record { height = 0; items = 0; is_choice = false; inside = None; place = None }
 
 -- of a token: one that is kept is of height 1, but for the part of a text
 unfoldable pub leaf : Shape → Measure
 leaf shape =
     if is_text_part shape then nothing
-    else record { height = 1; items = 0; alternatives = 1; inside = None; place = None }
+    else record { height = 1; items = 0; is_choice = false; inside = None; place = None }
 
 -- the lesser of two places
 unfoldable pub least : Option ℕ → Option ℕ → Option ℕ
@@ -31,7 +31,7 @@ unfoldable pub over : Measure → Measure → Measure
 over one other =
     let height = max one.height other.height in
     let place = least one.place other.place in
-    record { height = height; items = 0; alternatives = height; inside = place; place = place }
+    record { height = height; items = 0; is_choice = false; inside = place; place = place }
 
 -- of a child, if it counts
 unfoldable pub part : Bool → Measure → Measure
@@ -49,7 +49,7 @@ node most start within =
     record {
       height = height;
       items = 0;
-      alternatives = height;
+      is_choice = false;
       inside = within.place;
       place = place_of most within.place height start;
     }
@@ -62,11 +62,13 @@ node_or_plain most is_node start within = if is_node then node most start within
 unfoldable pub text : ℕ → ℕ → Measure → Measure
 text most start items = node most start (record items { height = items.height + items.items })
 
--- of a pattern with one alternative more: one higher than its alternatives
+-- of the alternatives of a pattern together: of the pattern itself, where it has one
+unfoldable pub choices : Measure → Measure
+choices a = if a.is_choice then record a { height = a.height - 1; place = a.inside } else a
+
+-- of a pattern with one alternative more: one higher than the highest of all its alternatives, of which no part is a node
 unfoldable pub alternatives : ℕ → ℕ → Measure → Measure → Measure
-alternatives most start before next =
-    let within = over (record before { height = before.alternatives }) next in
-    record (node most start within) { alternatives = within.height }
+alternatives most start before next = record (node most start (over (choices before) next)) { is_choice = true }
 
 -- of a type behind a word: it is one type with the word, and begins there
 unfoldable pub prefixed : ℕ → ℕ → Measure → Measure

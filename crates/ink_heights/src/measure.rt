@@ -14,11 +14,11 @@ use std::alloc::AllocError;
 #[derive(Clone, Copy)]
 pub(crate) struct Measure {
     /// The height, and 0 where nothing in it has one.
-    pub(crate) height: u64,
+    pub(crate) height: u32,
     /// The items of a list.
-    pub(crate) items: u64,
-    /// The greatest height of the alternatives of a pattern: its own, where it has one alternative.
-    pub(crate) alternatives: u64,
+    pub(crate) items: u32,
+    /// Whether it is a pattern of several alternatives.
+    pub(crate) is_choice: bool,
     /// The byte of the first node in it that is too high and has no such node in it.
     pub(crate) inside: Option<u32>,
     /// The same of the node itself and what is in it.
@@ -28,13 +28,13 @@ pub(crate) struct Measure {
 pub(crate) const NOTHING: Measure = Measure {
     height: 0,
     items: 0,
-    alternatives: 0,
+    is_choice: false,
     inside: None,
     place: None,
 };
 
 /// The sum, where it can be counted.
-fn sum(a: u64, b: u64) -> Result<u64, AllocError>
+fn sum(a: u32, b: u32) -> Result<u32, AllocError>
     ensures { IfOk result (λ sum. sum ≡ a + b) }
 {
     match a.checked_add(b) {
@@ -54,7 +54,7 @@ pub(crate) fn leaf(shape: Shape) -> Measure
     Measure {
         height: 1,
         items: 0,
-        alternatives: 1,
+        is_choice: false,
         inside: None,
         place: None,
     }
@@ -82,7 +82,7 @@ fn over(one: Measure, other: Measure) -> Measure
     Measure {
         height,
         items: 0,
-        alternatives: height,
+        is_choice: false,
         inside: place,
         place,
     }
@@ -98,12 +98,18 @@ fn part(counts: bool, child: Measure) -> Measure
 
 /// The place of a node of this height.
 #[tactic(auto, unfolding(crate::specs::Measures::place_of))]
-fn place_of(most: u64, inside: Option<u32>, height: u64, start: u32) -> Option<u32>
+fn place_of(most: u64, inside: Option<u32>, height: u32, start: u32) -> Option<u32>
     ensures { result ≡ spec.place_of most inside height start }
 {
     match inside {
         Some(place) => Some(place),
-        None => { if most < height { Some(start) } else { None } }
+        None => {
+            if most < u64::from(height) {
+                Some(start)
+            } else {
+                None
+            }
+        }
     }
 }
 
@@ -116,7 +122,7 @@ fn node(most: u64, start: u32, within: Measure) -> Result<Measure, AllocError>
     Ok(Measure {
         height,
         items: 0,
-        alternatives: height,
+        is_choice: false,
         inside: within.place,
         place: place_of(most, within.place, height, start),
     })
@@ -148,7 +154,23 @@ fn text(most: u64, start: u32, items: Measure) -> Result<Measure, AllocError>
     node(most, start, Measure { height, ..items })
 }
 
-/// What is known of a pattern with one alternative more.
+/// What is known of the alternatives of a pattern together: of the pattern itself, where it has one.
+#[tactic(auto, unfolding(crate::specs::Measures::choices))]
+fn choices(pattern: Measure) -> Measure
+    ensures { result ≡ spec.choices pattern }
+{
+    if pattern.is_choice {
+        Measure {
+            height: pattern.height.saturating_sub(1),
+            place: pattern.inside,
+            ..pattern
+        }
+    } else {
+        pattern
+    }
+}
+
+/// What is known of a pattern with one alternative more, which is one node over all its alternatives.
 #[tactic(auto, unfolding(crate::specs::Measures::alternatives))]
 fn alternatives(
     most: u64,
@@ -158,11 +180,9 @@ fn alternatives(
 ) -> Result<Measure, AllocError>
     ensures { IfOk result (λ measure. measure ≡ spec.alternatives most start before next) }
 {
-    let height = before.alternatives;
-    let within = over(Measure { height, ..before }, next);
-    let measure = node(most, start, within)?;
+    let measure = node(most, start, over(choices(before), next))?;
     Ok(Measure {
-        alternatives: within.height,
+        is_choice: true,
         ..measure
     })
 }

@@ -8,10 +8,10 @@ use Rattle.ink_grammar.specs.declared.symbol.Wanted.TheVariants as wanted
 use Rattle.ink_grammar.specs.declared.symbol.Nonterminal.{Nonterminal}
 use Rattle.ink_grammar.specs.declared.tree.TwoChildren.TheVariants as two_of
 use Rattle.ink_grammar.specs.Tree.{Tree, Leaf, Empty, Two, Found, is_place_word}
-use Rattle.ink_grammar.specs.Productions.{Is, is_module, is_imports_1, is_imports_2, is_import, is_import_path_1, is_import_path_2, is_import_names_1, is_import_names_2, is_import_name_1, is_import_name_2, is_import_names_rest_1, is_import_names_rest_2, is_import_names_more_1, is_import_names_more_2, is_declarations_1, is_declarations_2, is_declaration_1, is_declaration_2, is_declaration_3, is_declaration_4, is_type_form_1, is_type_form_2, is_type_form_3, is_object_form, is_object_members_1, is_object_members_2, is_object_members_3, is_enum_members_1, is_enum_members_2, is_enum_members_3, is_field_declaration, is_constructor, is_trait_methods_1, is_trait_methods_2, is_trait_method, is_implemented_trait_1, is_implemented_trait_2, is_optional_pub_1, is_optional_pub_2, is_optional_async_1, is_optional_async_2, is_optional_mut_1, is_optional_mut_2, is_method_kind_1, is_method_kind_2, is_method_kind_3, is_method_kind_4, is_trait_method_kind_1, is_trait_method_kind_2, is_trait_method_kind_3, is_methods_1, is_methods_2, is_method, is_parameters_1, is_parameters_2, is_parameters_more_1, is_parameters_more_2, is_parameters_rest_1, is_parameters_rest_2, is_parameter, is_method_result_1, is_method_result_2, is_full_type_1, is_full_type_2, is_bare_type_1, is_bare_type_2, is_tuple_type_rest_1, is_tuple_type_rest_2, is_type_arguments_1, is_type_arguments_2, is_type_arguments_rest_1, is_type_arguments_rest_2, is_type_arguments_more_1, is_type_arguments_more_2, is_type_parameters_1, is_type_parameters_2, is_type_parameters_rest_1, is_type_parameters_rest_2, is_type_parameters_more_1, is_type_parameters_more_2, is_type_parameter, is_bounds_1, is_bounds_2, is_bounds_rest_1, is_bounds_rest_2, is_constructor_types_1, is_constructor_types_2, is_constructor_types_rest_1, is_constructor_types_rest_2, is_constructor_types_more_1, is_constructor_types_more_2, is_block, is_statements_1, is_statements_2, is_more_statements_1, is_more_statements_2, is_statement_1, is_statement_2, is_mutable_1, is_mutable_2, is_let_name_1, is_let_name_2, is_let_type_1, is_let_type_2, is_expression_1, is_expression_2, is_jump_1, is_jump_2, is_jump_3, is_return_rest_1, is_return_rest_2, is_after_operand_1, is_after_operand_2, is_chain, is_chain_rest_1, is_chain_rest_2, is_unnamed_expression_1, is_unnamed_expression_2, is_conditional, is_else_rest_1, is_else_rest_2, is_else_branch_1, is_else_branch_2, is_arms_1, is_arms_2, is_arm, is_guard_1, is_guard_2, is_arm_value_1, is_arm_value_2, is_operand_1, is_operand_2, is_unnamed_operand_1, is_unnamed_operand_2, is_unnamed_operand_3, is_unnamed_operand_4, is_unnamed_operand_5, is_recover_rest_1, is_recover_rest_2, is_name_rest_1, is_name_rest_2, is_links_1, is_links_2, is_link_1, is_link_2, is_link_rest_1, is_link_rest_2, is_constant_rest_1, is_constant_rest_2, is_constant_rest_3, is_after_constant_1, is_after_constant_2, is_qualified_rest_1, is_qualified_rest_2, is_primary_1, is_primary_2, is_primary_3, is_primary_4, is_primary_5, is_primary_6, is_primary_7, is_primary_8, is_text_rest_1, is_text_rest_2, is_text_rest_3, is_parenthesis_rest_1, is_parenthesis_rest_2, is_tuple_rest_1, is_tuple_rest_2, is_items_1, is_items_2, is_items_rest_1, is_items_rest_2, is_arguments_1, is_arguments_2, is_arguments_rest_1, is_arguments_rest_2, is_constructor_arguments_1, is_constructor_arguments_2, is_constructor_arguments_3, is_named_or_not_1, is_named_or_not_2, is_named_rest_1, is_named_rest_2, is_named_more_1, is_named_more_2, is_pattern, is_alternative_1, is_alternative_2, is_alternative_3, is_alternative_4, is_alternative_5, is_alternative_6, is_pattern_rest_1, is_pattern_rest_2, is_pattern_text_rest_1, is_pattern_text_rest_2, is_constructor_pattern_rest_1, is_constructor_pattern_rest_2, is_patterns_rest_1, is_patterns_rest_2, is_patterns_more_1, is_patterns_more_2, is_tuple_pattern_rest_1, is_tuple_pattern_rest_2, is_field_pattern, is_field_patterns_rest_1, is_field_patterns_rest_2, is_field_patterns_more_1, is_field_patterns_more_2}
+use Rattle.ink_grammar.specs.Productions.{Is, is_module, is_imports_1, is_imports_2, is_import, is_import_path_1, is_import_path_2, is_import_names_1, is_import_names_2, is_import_name_1, is_import_name_2, is_import_names_rest_1, is_import_names_rest_2, is_import_names_more_1, is_import_names_more_2, is_declarations_1, is_declarations_2, is_declaration_1, is_declaration_2, is_declaration_3, is_declaration_4, is_type_form_1, is_type_form_2, is_type_form_3, is_object_form, is_object_members_1, is_object_members_2, is_object_members_3, is_enum_members_1, is_enum_members_2, is_enum_members_3, is_field_declaration, is_constructor, is_trait_methods_1, is_trait_methods_2, is_trait_method, is_implemented_trait_1, is_implemented_trait_2, is_optional_pub_1, is_optional_pub_2, is_optional_async_1, is_optional_async_2, is_optional_mut_1, is_optional_mut_2, is_method_kind_1, is_method_kind_2, is_method_kind_3, is_method_kind_4, is_trait_method_kind_1, is_trait_method_kind_2, is_trait_method_kind_3, is_methods_1, is_methods_2, is_method, is_parameters_1, is_parameters_2, is_parameters_more_1, is_parameters_more_2, is_parameters_rest_1, is_parameters_rest_2, is_parameter, is_method_result_1, is_method_result_2, is_full_type_1, is_full_type_2, is_bare_type_1, is_bare_type_2, is_tuple_type_rest_1, is_tuple_type_rest_2, is_type_arguments_1, is_type_arguments_2, is_type_arguments_rest_1, is_type_arguments_rest_2, is_type_arguments_more_1, is_type_arguments_more_2, is_type_parameters_1, is_type_parameters_2, is_type_parameters_rest_1, is_type_parameters_rest_2, is_type_parameters_more_1, is_type_parameters_more_2, is_type_parameter, is_bounds_1, is_bounds_2, is_bounds_rest_1, is_bounds_rest_2, is_constructor_types_1, is_constructor_types_2, is_constructor_types_rest_1, is_constructor_types_rest_2, is_constructor_types_more_1, is_constructor_types_more_2, is_block, is_statements_1, is_statements_2, is_more_statements_1, is_more_statements_2, is_statement_1, is_statement_2, is_mutable_1, is_mutable_2, is_let_name_1, is_let_name_2, is_let_type_1, is_let_type_2, is_expression_1, is_expression_2, is_jump_1, is_jump_2, is_jump_3, is_return_rest_1, is_return_rest_2, is_after_operand_1, is_after_operand_2, is_chain, is_chain_rest_1, is_chain_rest_2, is_chain_rest_3, is_unnamed_expression_1, is_unnamed_expression_2, is_conditional, is_else_rest_1, is_else_rest_2, is_else_branch_1, is_else_branch_2, is_arms_1, is_arms_2, is_arm, is_guard_1, is_guard_2, is_arm_value_1, is_arm_value_2, is_operand_1, is_operand_2, is_unnamed_operand_1, is_unnamed_operand_2, is_unnamed_operand_3, is_unnamed_operand_4, is_unnamed_operand_5, is_recover_rest_1, is_recover_rest_2, is_name_rest_1, is_name_rest_2, is_links_1, is_links_2, is_link_1, is_link_2, is_link_rest_1, is_link_rest_2, is_constant_rest_1, is_constant_rest_2, is_constant_rest_3, is_after_constant_1, is_after_constant_2, is_qualified_rest_1, is_qualified_rest_2, is_primary_1, is_primary_2, is_primary_3, is_primary_4, is_primary_5, is_primary_6, is_primary_7, is_primary_8, is_text_rest_1, is_text_rest_2, is_text_rest_3, is_parenthesis_rest_1, is_parenthesis_rest_2, is_tuple_rest_1, is_tuple_rest_2, is_items_1, is_items_2, is_items_rest_1, is_items_rest_2, is_arguments_1, is_arguments_2, is_arguments_rest_1, is_arguments_rest_2, is_constructor_arguments_1, is_constructor_arguments_2, is_constructor_arguments_3, is_named_or_not_1, is_named_or_not_2, is_named_rest_1, is_named_rest_2, is_named_more_1, is_named_more_2, is_pattern, is_alternative_1, is_alternative_2, is_alternative_3, is_alternative_4, is_alternative_5, is_alternative_6, is_pattern_rest_1, is_pattern_rest_2, is_pattern_text_rest_1, is_pattern_text_rest_2, is_constructor_pattern_rest_1, is_constructor_pattern_rest_2, is_patterns_rest_1, is_patterns_rest_2, is_patterns_more_1, is_patterns_more_2, is_tuple_pattern_rest_1, is_tuple_pattern_rest_2, is_field_pattern, is_field_patterns_rest_1, is_field_patterns_rest_2, is_field_patterns_more_1, is_field_patterns_more_2}
 use Rattle.ink_grammar.specs.Language.{Parses}
 use Rattle.ink_law_categories.specs.Written.{IsToken, IsWanted}
-use Rattle.ink_law_categories.specs.Categories.{IsA, Module, PubWord, ListOf, SomeOf, Expression, Place, TextItems, PartItems, Category, word, wants, bracket, list_empty, list_more, some_more, maybe_missing, maybe_there, a_module, an_import, import_name, import_constant, a_type, an_enum, a_trait, an_implementation, a_module_method, a_field, an_object_method, a_constructor, an_enum_method, a_method, a_signature, a_trait_method, a_parameter, a_type_parameter, no_pub, with_pub, no_mut, with_mut, no_async, with_async, no_kind, with_kind, no_trait_kind, with_trait_kind, a_prefixed_type, a_plain_type, a_named_type, a_pair_type, a_triple_type, a_block, a_let, a_value_statement, a_let_name, a_let_underscore, a_counted, a_return, a_throw, a_loop_jump, an_assignment, a_chain, a_place, a_place_name, a_place_field, a_member, a_borrow, a_try, a_recover, a_recovered_block, a_recovered_value, a_member_call, a_tuple_item, an_atom, a_text, a_call, a_constructed, a_construction, a_constant, a_qualified, unnamed_arguments, named_arguments, a_named, a_pair, a_triple, an_array, a_conditional, an_if, a_block_branch, a_conditional_branch, a_while, a_loop, a_match, an_arm, an_arm_block, an_arm_value, no_text, text_part, text_value, no_pattern_text, pattern_text_part, an_alternative, alternatives, a_pattern_atom, a_pattern_text, a_mutable_name, a_constant_pattern, a_constructor_pattern, a_pair_pattern, a_triple_pattern, field_patterns, a_field_pattern}
+use Rattle.ink_law_categories.specs.Categories.{IsA, Module, PubWord, ListOf, SomeOf, Expression, Place, TextItems, PartItems, Category, word, wants, bracket, list_empty, list_more, some_more, maybe_missing, maybe_there, a_module, an_import, import_name, import_constant, a_type, an_enum, a_trait, an_implementation, a_module_method, a_field, an_object_method, a_constructor, an_enum_method, a_method, a_signature, a_trait_method, a_parameter, a_type_parameter, no_pub, with_pub, no_mut, with_mut, no_async, with_async, no_kind, with_kind, no_trait_kind, with_trait_kind, a_prefixed_type, a_plain_type, a_named_type, a_pair_type, a_triple_type, a_block, a_let, a_value_statement, a_let_name, a_let_underscore, a_counted, a_return, a_throw, a_loop_jump, an_assignment, a_chain, a_logical_chain, a_place, a_place_name, a_place_field, a_member, a_borrow, a_try, a_recover, a_recovered_block, a_recovered_value, a_member_call, a_tuple_item, an_atom, a_text, a_call, a_constructed, a_construction, a_constant, a_qualified, unnamed_arguments, named_arguments, a_named, a_pair, a_triple, an_array, a_conditional, an_if, a_block_branch, a_conditional_branch, a_while, a_loop, a_match, an_arm, an_arm_block, an_arm_value, no_text, text_part, text_value, no_pattern_text, pattern_text_part, an_alternative, alternatives, a_pattern_atom, a_pattern_text, a_mutable_name, a_constant_pattern, a_constructor_pattern, a_pair_pattern, a_triple_pattern, field_patterns, a_field_pattern}
 use Rattle.ink_law_categories.specs.Nested.{Level, Outside, Inside, Embedded, Nested}
 use Rattle.ink_law_categories.proofs.Shapes.{atom_place}
 use Rattle.ink_law_categories.proofs.Levels.{inner_level, inner_rest, inner_code}
@@ -161,7 +161,8 @@ module _ (source : List ℕ) (last : List Level) where
   fit (is_after_operand_2 u0 v0 h0) = λ x l ls c. fit h0 x.expression l ls c
   fit (is_chain u0 v0 u1 v1 h0 h1) = λ x l ls c. then (fit h0 tt l ls c) (λ a0. fit h1 a0.expression l ls c)
   fit (is_chain_rest_1 t0 u0 v0 u1 v1 h0 h1 h2 h3) = λ x l ls c. wanted_token wanted.Operator h1 refl (λ i0. then (fit h2 tt l ls c) (λ a0. fit h3 (a_chain x (wants i0) a0.expression) l ls c))
-  fit is_chain_rest_2 = λ x l ls c. done x
+  fit (is_chain_rest_2 t0 u0 v0 u1 v1 h0 h1 h2 h3) = λ x l ls c. wanted_token wanted.Logical h1 refl (λ i0. then (fit h2 tt l ls c) (λ a0. fit h3 (a_logical_chain x (wants i0) (a_counted a0.expression)) l ls c))
+  fit is_chain_rest_3 = λ x l ls c. done x
   fit (is_unnamed_expression_1 u0 v0 h0) = λ x l ls c. fit h0 tt l ls c
   fit (is_unnamed_expression_2 u0 v0 u1 v1 h0 h1) = λ x l ls c. then (fit h0 tt l ls c) (λ a0. fit h1 a0 l ls c)
   fit (is_conditional t0 u0 v0 u1 v1 u2 v2 h0 h1 h2 h3) = λ x l ls c. token (shape.Keyword keyword.If) h0 refl (λ i0. then (fit h1 tt l ls c) (λ a0. then (fit h2 tt l ls c) (λ a1. fit h3 (a1, a_counted a0, word i0) l ls c)))

@@ -16,7 +16,7 @@ use Rattle.ink_grammar.specs.declared.tree.FourChildren.TheVariants as four_of
 use Rattle.ink_grammar.specs.Parts.{Method, Block, Expression, Primary}
 use Rattle.ink_grammar.specs.Tree.{Found, leaf, no_items, nothing, node_one, node_two, node_three, node_four}
 use Rattle.ink_grammar.specs.Language.{Parses}
-use Rattle.ink_grammar.specs.Productions.{Is, is_module, is_imports_2, is_declarations_1, is_declarations_2, is_declaration_4, is_method, is_optional_pub_2, is_optional_async_2, is_method_kind_4, is_type_parameters_2, is_parameters_2, is_method_result_2, is_block, is_statements_1, is_more_statements_2, is_statement_2, is_expression_2, is_after_operand_2, is_chain_rest_2, is_operand_2, is_unnamed_operand_5, is_links_2, is_primary_1, is_primary_2, is_text_rest_1, is_text_rest_2, is_text_rest_3}
+use Rattle.ink_grammar.specs.Productions.{Is, is_module, is_imports_2, is_declarations_1, is_declarations_2, is_declaration_4, is_method, is_optional_pub_2, is_optional_async_2, is_method_kind_4, is_type_parameters_2, is_parameters_2, is_method_result_2, is_block, is_statements_1, is_more_statements_2, is_statement_2, is_expression_2, is_after_operand_2, is_chain_rest_3, is_operand_2, is_unnamed_operand_5, is_links_2, is_primary_1, is_primary_2, is_text_rest_1, is_text_rest_2, is_text_rest_3}
 use Rattle.ink_law_categories.specs.Written.{IsWorded, IsPartOf}
 use Rattle.ink_law_categories.specs.Categories.{Module, IsA}
 use Rattle.ink_law_categories.specs.Nested.{Nested, Outside, none, flat, left_brace, right_brace, opens_text, closes_text, part, opens_value, closes_value}
@@ -48,7 +48,7 @@ nested =
 -- an expression that is a primary alone
 primary_alone : (us : List Terminal) (v : Found) → Is Primary [] us v → Is Expression [] us v
 primary_alone us v h = subst (λ z. Is Expression [] z v) (append-nil (us ++ []) ∙ append-nil us)
-    (is_expression_2 (us ++ []) v [] v (is_operand_2 (us ++ []) v (is_unnamed_operand_5 us v [] v h is_links_2)) (is_after_operand_2 [] v is_chain_rest_2))
+    (is_expression_2 (us ++ []) v [] v (is_operand_2 (us ++ []) v (is_unnamed_operand_5 us v [] v h is_links_2)) (is_after_operand_2 [] v is_chain_rest_3))
 
 abbrev text_tokens : List Terminal
 text_tokens = sample.quote ∷ sample.part ∷ sample.opening ∷ sample.one ∷ sample.closing ∷ sample.quote_behind ∷ []

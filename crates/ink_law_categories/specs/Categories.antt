@@ -52,7 +52,7 @@ pub data Category : Type 0 where
   LetName : Category
   Place : Category
   Expression : Category
-  -- an expression that counts as a statement: a condition, a value
+  -- an expression that counts as a statement: a condition, a value, the right operand of `and` or `or`
   Counted : Category
   Recovered : Category
   Branch : Category
@@ -139,6 +139,7 @@ pub data IsA (source : List ℕ) : Category → Tree → Type 0 where
   a_loop_jump : {a : Tree} → IsA source (Wants wanted.LoopJump) a → IsA source Expression a
   an_assignment : {s : ℕ} {a b c : Tree} → IsA source Place a → IsA source (Wants wanted.Setter) b → IsA source Expression c → IsA source Expression (Three three_of.Assign s a b c)
   a_chain : {s : ℕ} {a b c : Tree} → IsA source Expression a → IsA source (Wants wanted.Operator) b → IsA source Expression c → IsA source Expression (Three three_of.Binary s a b c)
+  a_logical_chain : {s : ℕ} {a b c : Tree} → IsA source Expression a → IsA source (Wants wanted.Logical) b → IsA source Counted c → IsA source Expression (Three three_of.Binary s a b c)
   a_place : {a : Tree} → IsA source Place a → IsA source Expression a
   a_place_name : {a : Tree} → IsA source (Word shape.Name) a → IsA source Place a
   a_place_field : {a : Tree} → IsA source (Word shape.Field) a → IsA source Place a

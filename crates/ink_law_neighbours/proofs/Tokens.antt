@@ -81,9 +81,14 @@ module _ {source : List ℕ} where
   operator-leads : {t : Terminal} {f : Bool} (x : Shape) → t.shape ≡ x → is wanted.Operator x ≡ true → IsWorded source t → (l : Level) (ls : List Level) → IsCode l → Leads source (l ∷ ls) f (piece.Token t ∷ []) (l ∷ ls) true
   operator-leads (shape.Mark mark.Operator) e w worded l ls code = an_operator code (ap class_of_shape e) worded
   operator-leads (shape.Mark mark.Plus) e w worded l ls code = an_operator code (ap class_of_shape e) worded
-  operator-leads (shape.Keyword keyword.And) e w worded l ls code = a_keyword keyword.And code e worded
-  operator-leads (shape.Keyword keyword.Or) e w worded l ls code = a_keyword keyword.Or code e worded
+  operator-leads (shape.Keyword keyword.And) e w worded l ls code = never w
   operator-leads _ e w worded l ls code = never w
+
+  logical-leads : {t : Terminal} {f : Bool} (x : Shape) → t.shape ≡ x → is wanted.Logical x ≡ true → IsWorded source t → (l : Level) (ls : List Level) → IsCode l → Leads source (l ∷ ls) f (piece.Token t ∷ []) (l ∷ ls) true
+  logical-leads (shape.Keyword keyword.And) e w worded l ls code = a_keyword keyword.And code e worded
+  logical-leads (shape.Keyword keyword.Or) e w worded l ls code = a_keyword keyword.Or code e worded
+  logical-leads (shape.Mark mark.LeftParen) e w worded l ls code = never w
+  logical-leads _ e w worded l ls code = never w
 
   setter-leads : {t : Terminal} {f : Bool} (x : Shape) → t.shape ≡ x → is wanted.Setter x ≡ true → IsWorded source t → (l : Level) (ls : List Level) → IsCode l → Leads source (l ∷ ls) f (piece.Token t ∷ []) (l ∷ ls) true
   setter-leads (shape.Mark mark.Equals) e w worded l ls code = an_operator code (ap class_of_shape e) worded
@@ -139,6 +144,9 @@ module _ {source : List ℕ} where
 
   pub operator-in : {a : Tree} {f : Bool} → HasWanted source wanted.Operator a → (l : Level) (ls : List Level) → IsCode l → Leads source (l ∷ ls) f (printed a context.Expression) (l ∷ ls) true
   operator-in h l ls code = at_expression-in h.is (operator-leads h.t.shape refl h.token.shape h.token.written l ls code)
+
+  pub logical-in : {a : Tree} {f : Bool} → HasWanted source wanted.Logical a → (l : Level) (ls : List Level) → IsCode l → Leads source (l ∷ ls) f (printed a context.Expression) (l ∷ ls) true
+  logical-in h l ls code = at_expression-in h.is (logical-leads h.t.shape refl h.token.shape h.token.written l ls code)
 
   pub setter-in : {a : Tree} {f : Bool} → HasWanted source wanted.Setter a → (l : Level) (ls : List Level) → IsCode l → Leads source (l ∷ ls) f (printed a context.Expression) (l ∷ ls) true
   setter-in h l ls code = at_expression-in h.is (setter-leads h.t.shape refl h.token.shape h.token.written l ls code)

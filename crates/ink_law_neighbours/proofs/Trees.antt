@@ -26,7 +26,7 @@ use Rattle.ink_law_neighbours.specs.Follow as follow
 use Rattle.ink_law_neighbours.specs.Follow.{Follow, is_word}
 use Rattle.ink_law_neighbours.proofs.Leads.{Leads, done, free, then, loose, eased, line, a_sign, braces, in_value, ValueContext, at_expression, at_chain, at_operand, at_base, around_value}
 use Rattle.ink_law_neighbours.proofs.Says.{Prints, PrintsAnywhere, HasWord, PrintsList, PrintsValue, PrintsPlain, PrintsBlock, PrintsCounted, Fit, Says}
-use Rattle.ink_law_neighbours.proofs.Tokens.{word-in, keyword-in, operator-in, setter-in, borrow-in, prefix-in, pattern-in, link-in, implemented-in, atom-value, jump-value, word-value}
+use Rattle.ink_law_neighbours.proofs.Tokens.{word-in, keyword-in, operator-in, logical-in, setter-in, borrow-in, prefix-in, pattern-in, link-in, implemented-in, atom-value, jump-value, word-value}
 
 module _ {source : List ℕ} where
   -- a value in a context of values
@@ -257,6 +257,7 @@ module _ {source : List ℕ} where
   says (category.a_loop_jump x) = jump-value (says x)
   says (category.an_assignment x y z) = a_value_node rank.Expression _ (λ p. refl) refl refl (λ l ls code. then (value-at at_base (says x) l ls code) (then (setter-in (says y) l ls code) (then (value-at at_expression (says z) l ls code) done)))
   says (category.a_chain x y z) = a_value_node rank.Chain _ (λ p. refl) refl refl (λ l ls code. then (value-at at_chain (says x) l ls code) (then (operator-in (says y) l ls code) (then (value-at at_operand (says z) l ls code) done)))
+  says (category.a_logical_chain x y z) = a_value_node rank.Chain _ (λ p. refl) refl refl (λ l ls code. then (value-at at_chain (says x) l ls code) (then (logical-in (says y) l ls code) (then ((says z).operand l ls code) done)))
   says (category.a_place x) = says x
   says (category.a_place_name x) = word-value (says x) refl refl
   says (category.a_place_field x) = word-value (says x) refl refl

@@ -5,13 +5,15 @@ use Rattle.ink_grammar.specs.declared.token.Keyword.TheVariants as keyword
 use Rattle.ink_grammar.specs.declared.token.Mark.TheVariants as mark
 use Rattle.ink_grammar.specs.declared.token.Shape.TheVariants as shape
 use Rattle.ink_grammar.specs.declared.token.Terminal.{Terminal}
+use Rattle.ink_grammar.specs.declared.symbol.Line.TheVariants as line_of
+use Rattle.ink_grammar.specs.declared.symbol.Wanted.{Wanted}
 use Rattle.ink_grammar.specs.declared.symbol.Wanted.TheVariants as wanted
 use Rattle.ink_grammar.specs.declared.tree.TwoChildren.TheVariants as two_of
 use Rattle.ink_grammar.specs.declared.tree.ThreeChildren.TheVariants as three_of
 use Rattle.ink_grammar.specs.Shapes.{is}
 use Rattle.ink_grammar.specs.Tree.{Tree, Leaf, Two, Three, Found, leaf, nothing, node_two, node_three, is_place_word}
-use Rattle.ink_grammar.specs.Parts.{Expression, Operand, RecoverRest}
-use Rattle.ink_grammar.specs.Productions.{Is, is_expression_1, is_expression_2, is_jump_1, is_jump_2, is_jump_3, is_return_rest_1, is_return_rest_2, is_after_operand_1, is_chain_rest_1, is_operand_1, is_operand_2, is_unnamed_operand_1, is_unnamed_operand_2, is_unnamed_operand_3, is_name_rest_2, is_links_1, is_link_1, is_link_rest_2, is_primary_1}
+use Rattle.ink_grammar.specs.Parts.{Expression, ChainRest, Operand, RecoverRest}
+use Rattle.ink_grammar.specs.Productions.{Is, IsOneOf, StandsOn, is_expression_1, is_expression_2, is_jump_1, is_jump_2, is_jump_3, is_return_rest_1, is_return_rest_2, is_after_operand_1, is_chain_rest_1, is_operand_1, is_operand_2, is_unnamed_operand_1, is_unnamed_operand_2, is_unnamed_operand_3, is_name_rest_2, is_links_1, is_link_1, is_link_rest_2, is_primary_1}
 use Rattle.ink_print.specs.declared.context.Context.{Context}
 use Rattle.ink_print.specs.declared.context.Context.TheVariants as context
 use Rattle.ink_print.specs.declared.context.Rank.TheVariants as rank
@@ -96,25 +98,32 @@ pub assignment_form : {source print : List ℕ} {s : ℕ} {a b c : Tree} → Pla
 unfolding printed
 assignment_form {s = s} {a = a} {b = b} {c = c} p f g = expression_form (fill (three_children a b c) (first_as context.Base ∷ second ∷ third ∷ [])) refl refl refl refl refl (λ line end us h. assigned p f g (step_three three_of.Assign s a b c context.Expression h))
 
+-- what stands behind a word of a chain, to its right
+abbrev pub RightKind : Wanted → List Terminal → Found → Type 0
+RightKind wanted us v = (t : Terminal) (a : Found) (w : List Terminal) (x : Found) → StandsOn line_of.Same t → IsOneOf wanted t → Is ChainRest (node_three three_of.Binary a (leaf t) v ∷ []) w x → Is ChainRest (a ∷ []) (t ∷ (us ++ w)) x
+
+pub plain_right_form : {source print : List ℕ} {a : Tree} → Expressed source print a → ReadsAt source print (RightKind wanted.Operator) context.Operand a
+plain_right_form g line end us h = at_widened (λ u v k t a w x stands is m. is_chain_rest_1 t u v w x stands is k m) (g.at_operand line end us h)
+
 -- a chain and one more operand
-chained_of : {source print : List ℕ} {line mid last end : Bool} {s : ℕ} {a b c : Tree} {us ws zs : List Terminal} → At source print Chained a line mid us → TokenAt source print (λ y. is wanted.Operator y ≡ true) mid b ws last → At source print (Is Operand []) c last end zs
+chained_of : (wanted : Wanted) {source print : List ℕ} {line mid last end : Bool} {s : ℕ} {a b c : Tree} {us ws zs : List Terminal} → At source print Chained a line mid us → TokenAt source print (λ y. is wanted y ≡ true) mid b ws last → At source print (RightKind wanted) c last end zs
     → At source print Chained (Three three_of.Binary s a b c) line end (us ++ (ws ++ zs))
-chained_of {us = us} {zs = zs} p (token_at {u = u} n h e) r =
+chained_of wanted {us = us} {zs = zs} p (token_at {u = u} n h e) r =
     record {
       value = node_three three_of.Binary p.value (leaf u) r.value;
-      kind = λ w x m. subst (λ z. Opened z x) (sym (append_assoc us (u ∷ zs) w)) (p.kind (u ∷ (zs ++ w)) x (is_chain_rest_1 u zs _ w x (ap not (n ∙ p.ended)) e r.kind m));
+      kind = λ w x m. subst (λ z. Opened z x) (sym (append_assoc us (u ∷ zs) w)) (p.kind (u ∷ (zs ++ w)) x (r.kind u p.value w x (ap not (n ∙ p.ended)) e m));
       alike = alike.three p.alike (alike.token h) r.alike;
       headed = headed_both _ us _ p.headed;
       ended = r.ended;
     }
 
-chained : {source print : List ℕ} {line end : Bool} {s : ℕ} {a b c : Tree} {us : List Terminal} → Expressed source print a → Kept (λ y. is wanted.Operator y ≡ true) b → Expressed source print c
+chained : (wanted : Wanted) {source print : List ℕ} {line end : Bool} {s : ℕ} {a b c : Tree} {us : List Terminal} → Expressed source print a → Kept (λ y. is wanted y ≡ true) b → ReadsAt source print (RightKind wanted) context.Operand c
     → Stepped source print (three_children a b c) line (first_as context.Chain ∷ second ∷ third_as context.Operand ∷ []) us end → At source print Chained (Three three_of.Binary s a b c) line end us
-chained p f g (next h (next m (last r))) = chained_of (p.at_chain _ _ _ h) (word_read f m) (g.at_operand _ _ _ r)
+chained wanted p f g (next h (next m (last r))) = chained_of wanted (p.at_chain _ _ _ h) (word_read f m) (g _ _ _ r)
 
-pub binary_form : {source print : List ℕ} {s : ℕ} {a b c : Tree} → Expressed source print a → Kept (λ y. is wanted.Operator y ≡ true) b → Expressed source print c → Expressed source print (Three three_of.Binary s a b c)
+pub binary_form : (wanted : Wanted) {source print : List ℕ} {s : ℕ} {a b c : Tree} → Expressed source print a → Kept (λ y. is wanted y ≡ true) b → ReadsAt source print (RightKind wanted) context.Operand c → Expressed source print (Three three_of.Binary s a b c)
 unfolding printed
-binary_form {s = s} {a = a} {b = b} {c = c} p f g = chain_form (fill (three_children a b c) (first_as context.Chain ∷ second ∷ third_as context.Operand ∷ [])) refl refl refl refl refl (λ line end us h. chained p f g (step_three three_of.Binary s a b c context.Expression h))
+binary_form wanted {s = s} {a = a} {b = b} {c = c} p f g = chain_form (fill (three_children a b c) (first_as context.Chain ∷ second ∷ third_as context.Operand ∷ [])) refl refl refl refl refl (λ line end us h. chained wanted p f g (step_three three_of.Binary s a b c context.Expression h))
 
 -- a token that needs no parentheses
 pub leaf_form : {source print : List ℕ} {t : Terminal} → rank_of_shape t.shape ≡ rank.Base → ReadsAt source print Linkable context.Expression (Leaf t) → Expressed source print (Leaf t)

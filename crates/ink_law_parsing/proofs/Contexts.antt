@@ -7,7 +7,7 @@ use Rattle.ink_grammar.specs.declared.symbol.Line.TheVariants as line_of
 use Rattle.ink_grammar.specs.Tree.{Tree, Found, leaf, in_parentheses}
 use Rattle.ink_grammar.specs.Reads.{Opens}
 use Rattle.ink_grammar.specs.Parts.{Expression, Chain, ChainRest, Operand, Links, Primary}
-use Rattle.ink_grammar.specs.Productions.{Is, is_expression_2, is_after_operand_2, is_chain, is_chain_rest_2, is_links_2, is_operand_2, is_unnamed_operand_5, is_primary_3, is_parenthesis_rest_1}
+use Rattle.ink_grammar.specs.Productions.{Is, is_expression_2, is_after_operand_2, is_chain, is_chain_rest_3, is_links_2, is_operand_2, is_unnamed_operand_5, is_primary_3, is_parenthesis_rest_1}
 use Rattle.ink_print.specs.declared.context.Context.{Context}
 use Rattle.ink_print.specs.declared.context.Context.TheVariants as context
 use Rattle.ink_print.specs.declared.step.Piece.{Piece}
@@ -79,10 +79,10 @@ opened_chain : {us : List Terminal} {v : Found} → Opened us v → Is Chain [] 
 opened_chain (opened h r) = is_chain _ _ _ _ h r
 
 pub expression_chained : (us : List Terminal) (v : Found) → Chained us v → Is Expression [] us v
-expression_chained us v k = subst (λ z. Is Expression [] z v) (append-nil us) (opened_expression (k [] v is_chain_rest_2))
+expression_chained us v k = subst (λ z. Is Expression [] z v) (append-nil us) (opened_expression (k [] v is_chain_rest_3))
 
 pub chain_chained : (us : List Terminal) (v : Found) → Chained us v → Is Chain [] us v
-chain_chained us v k = subst (λ z. Is Chain [] z v) (append-nil us) (opened_chain (k [] v is_chain_rest_2))
+chain_chained us v k = subst (λ z. Is Chain [] z v) (append-nil us) (opened_chain (k [] v is_chain_rest_3))
 
 -- how a tree in a context is read
 abbrev pub ReadsAt : List ℕ → List ℕ → (List Terminal → Found → Type 0) → Context → Tree → Type 0

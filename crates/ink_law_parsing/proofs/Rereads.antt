@@ -1,6 +1,7 @@
 -- Each tree is read as it was printed, whatever its category.
 use Rattle.std.proofs.Common.{◌≡◌, ℕ, Bool, true, false, List, [], inl, inr, refl}
 use Rattle.ink_grammar.specs.declared.token.Shape.TheVariants as shape
+use Rattle.ink_grammar.specs.declared.symbol.Wanted.TheVariants as wanted
 use Rattle.ink_grammar.specs.declared.token.Terminal.{Terminal}
 use Rattle.ink_grammar.specs.Language.{Parses}
 use Rattle.ink_grammar.specs.Productions.{Is}
@@ -17,10 +18,10 @@ use Rattle.ink_law_parsing.proofs.Words.{Kept, kept}
 use Rattle.ink_law_parsing.proofs.Lists.{Each, no_item, one_more, EachOfSome, with_item, Perhaps, left_out, there, Reading}
 use Rattle.ink_law_parsing.proofs.Types.{Typed, BareTyped, named_type, prefixed_type, plain_type, pair_type, triple_type}
 use Rattle.ink_law_parsing.proofs.Contexts.{ReadsAt, Expressed}
-use Rattle.ink_law_parsing.proofs.Chains.{Placed, RecoverKind, return_form, throw_form, jump_form, assignment_form, binary_form, name_form, field_form, member_form, borrow_form, try_form, recover_form}
+use Rattle.ink_law_parsing.proofs.Chains.{Placed, RecoverKind, return_form, throw_form, jump_form, assignment_form, plain_right_form, binary_form, name_form, field_form, member_form, borrow_form, try_form, recover_form}
 use Rattle.ink_law_parsing.proofs.Calls.{Constructible, ConstructorItems, NamedTree, unnamed_form, named_form, named_arguments_form, call_form, member_call_form, tuple_item_form, constant_form, qualified_form, construction_form}
 use Rattle.ink_law_parsing.proofs.Primaries.{TextTree, text_part, text_value, atom_form, text_form, pair_form, triple_form, array_form}
-use Rattle.ink_law_parsing.proofs.Statements.{StatementTree, Blocked, Counts, counts, Branched, ConditionalTree, block_form, value_statement_form, recovered_block_form, recovered_value_form, block_branch_form, if_form, while_form, loop_form}
+use Rattle.ink_law_parsing.proofs.Statements.{StatementTree, Blocked, Counts, counts, Branched, ConditionalTree, block_form, value_statement_form, recovered_block_form, recovered_value_form, logical_right_form, block_branch_form, if_form, while_form, loop_form}
 use Rattle.ink_law_parsing.proofs.Arms.{LetName, let_form, arm_block_form, arm_value_form, arm_form, match_form}
 use Rattle.ink_law_parsing.proofs.Patterns.{PatternKind, alternative_form, either_form, pattern_atom_form, constant_pattern_form, mutable_name_form, constructor_pattern_form, pair_pattern_form, triple_pattern_form, field_pattern_form, field_patterns_form, pattern_text_form}
 use Rattle.ink_law_parsing.proofs.Methods.{WordsTree, PubKind, MutKind, AsyncKind, SelfKind, TraitKind, SignatureKind, no_pub_form, pub_form, no_mut_form, mut_form, no_async_form, async_form, no_self_form, self_form, no_trait_self_form, trait_self_form, type_parameter_form, parameter_form, signature_form, method_form, trait_method_form}
@@ -128,7 +129,8 @@ reread print (category.a_return h k) = return_form (reread print h) (reread prin
 reread print (category.a_throw h k) = throw_form (reread print h) (reread print k)
 reread print (category.a_loop_jump h) = jump_form (reread print h)
 reread print (category.an_assignment h k l) = assignment_form (reread print h) (reread print k) (reread print l)
-reread print (category.a_chain h k l) = binary_form (reread print h) (reread print k) (reread print l)
+reread print (category.a_chain h k l) = binary_form wanted.Operator (reread print h) (reread print k) (plain_right_form (reread print l))
+reread print (category.a_logical_chain h k l) = binary_form wanted.Logical (reread print h) (reread print k) (logical_right_form (reread print l))
 reread print (category.a_place h) = (reread print h).expressed
 reread print (category.a_place_name h) = name_form (reread print h)
 reread print (category.a_place_field h) = field_form (reread print h)

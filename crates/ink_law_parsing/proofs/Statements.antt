@@ -4,6 +4,7 @@ use Rattle.ink_grammar.specs.declared.token.Keyword.TheVariants as keyword
 use Rattle.ink_grammar.specs.declared.token.Mark.TheVariants as mark
 use Rattle.ink_grammar.specs.declared.token.Shape.TheVariants as shape
 use Rattle.ink_grammar.specs.declared.token.Terminal.{Terminal}
+use Rattle.ink_grammar.specs.declared.symbol.Wanted.TheVariants as wanted
 use Rattle.ink_grammar.specs.declared.tree.OneChild.TheVariants as one_of
 use Rattle.ink_grammar.specs.declared.tree.TwoChildren.TheVariants as two_of
 use Rattle.ink_grammar.specs.declared.tree.ThreeChildren.TheVariants as three_of
@@ -11,7 +12,7 @@ use Rattle.ink_grammar.specs.declared.tree.FourChildren.TheVariants as four_of
 use Rattle.ink_grammar.specs.Shapes.{same}
 use Rattle.ink_grammar.specs.Tree.{Tree, Missing, One, Two, Three, Four, Found, leaf, no_items, nothing, node_one, node_two, node_three, node_four}
 use Rattle.ink_grammar.specs.Parts.{Block, Statements, MoreStatements, Statement, Chain, Conditional, ElseRest, ElseBranch, Primary}
-use Rattle.ink_grammar.specs.Productions.{Is, is_block, is_statements_1, is_statements_2, is_more_statements_1, is_more_statements_2, is_statement_2, is_conditional, is_else_rest_1, is_else_rest_2, is_else_branch_1, is_else_branch_2, is_recover_rest_1, is_recover_rest_2, is_primary_5, is_primary_6, is_primary_7}
+use Rattle.ink_grammar.specs.Productions.{Is, is_block, is_statements_1, is_statements_2, is_more_statements_1, is_more_statements_2, is_statement_2, is_chain_rest_2, is_conditional, is_else_rest_1, is_else_rest_2, is_else_branch_1, is_else_branch_2, is_recover_rest_1, is_recover_rest_2, is_primary_5, is_primary_6, is_primary_7}
 use Rattle.ink_print.specs.declared.context.Context.TheVariants as context
 use Rattle.ink_print.specs.declared.step.Piece.TheVariants as piece
 use Rattle.ink_print.specs.declared.step.Sign.TheVariants as sign
@@ -25,7 +26,7 @@ use Rattle.ink_law_parsing.proofs.Steps.{Stepped, stop, put, last, next, one_chi
 use Rattle.ink_law_parsing.proofs.Words.{has, has_sign, Kept, TokenAt, token_at, word_read, bracket_alike}
 use Rattle.ink_law_parsing.proofs.Lists.{Each, Perhaps, left_out, there, ReadAs, Items, item, body_of_each}
 use Rattle.ink_law_parsing.proofs.Contexts.{Headed, opens_fresh, At, at_widened, linkable_primary, chain_chained, ReadsAt, Expressed, base_form}
-use Rattle.ink_law_parsing.proofs.Chains.{RecoverKind}
+use Rattle.ink_law_parsing.proofs.Chains.{RecoverKind, RightKind}
 
 -- a statement on a line of its own, or not
 abbrev pub StatementAt : Bool → List Terminal → Found → Type 0
@@ -83,6 +84,13 @@ recovered g (last h) = let r = g.at_operand _ _ _ h in record { value = node_one
 
 pub recovered_value_form : {source print : List ℕ} {a : Tree} → Counts source print a → ReadsAt source print RecoverKind context.Operand a
 recovered_value_form (counts {s = s} {a = a} g) line end us h = recovered g (step_one one_of.Statement s a context.Operand h)
+
+-- the right operand of `and` or `or`
+logical_right : {source print : List ℕ} {line end : Bool} {s : ℕ} {a : Tree} {us : List Terminal} → Expressed source print a → Stepped source print (one_child a) line (first_as context.Operand ∷ []) us end → At source print (RightKind wanted.Logical) (One one_of.Statement s a) line end us
+logical_right g (last h) = let r = g.at_operand _ _ _ h in record { value = node_one one_of.Statement r.value; kind = λ t a w x stands is m. is_chain_rest_2 t _ _ w x stands is r.kind m; alike = alike.one r.alike; headed = r.headed; ended = r.ended }
+
+pub logical_right_form : {source print : List ℕ} {a : Tree} → Counts source print a → ReadsAt source print (RightKind wanted.Logical) context.Operand a
+logical_right_form (counts {s = s} {a = a} g) line end us h = logical_right g (step_one one_of.Statement s a context.Operand h)
 
 -- a condition
 pub data ConditionKind : List Terminal → Found → Type 0 where

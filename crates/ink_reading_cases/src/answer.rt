@@ -17,7 +17,7 @@ pub enum Question {
     Parse,
     /// Its tree.
     Tree,
-    /// Its height, and where the first node begins that is as high.
+    /// Its height, and where the first node begins that is over each lesser limit.
     Height,
     /// Whether it is read.
     Read,

@@ -68,17 +68,19 @@ pub fn tree_told(alloc: Global, source: &[u8]) -> Result<String, AllocError> {
 }
 
 fn module_height(alloc: Global, module: &Module) -> Result<String, AllocError> {
-    let mut over = String::from_str(alloc, "nothing higher")?;
+    let mut over = String::new(alloc);
     for most in 1..200 {
         match first_too_high(alloc, module, most)? {
-            Some(byte) => over = format!(in alloc; "higher than {most} first at byte {byte}")?,
-            None => return format!(in alloc; "height {most}, {over}"),
+            Some(byte) => over.push_str(format!(in alloc;
+                ", over {most} at byte {byte}"
+            )?.as_str())?,
+            None => return format!(in alloc; "height {most}{over}"),
         }
     }
     Ok(over)
 }
 
-/// The height of the module, and the byte of the first node that is as high.
+/// The height of the module, and for each lesser limit the byte of the first node that is too high.
 pub fn height_told(alloc: Global, source: &[u8]) -> Result<String, AllocError> {
     match read_module(alloc, source, &Limits::defaults()) {
         Ok(reading) => module_height(alloc, &reading.module),

@@ -81,6 +81,8 @@ pub const AT_PLACE_SETTER: Symbol = Symbol::Place(Wanted::Setter);
 
 pub const SAME_LINE_OPERATOR: Symbol = Symbol::Token(Line::Same, Wanted::Operator);
 
+pub const SAME_LINE_LOGICAL: Symbol = Symbol::Token(Line::Same, Wanted::Logical);
+
 pub const BORROW_WORD: Symbol = Symbol::Token(Line::Any, Wanted::BorrowWord);
 
 pub const TRY: Symbol = Symbol::Token(Line::Any, Wanted::Word(shape::TRY));

@@ -20,10 +20,10 @@ pub loop-work-preserved-in-Continue-branch-2 : goal.loop-work-preserved-in-Conti
 loop-work-preserved-in-Continue-branch-2 c = piece_said c.args.tree.now.nodes.items c.loop-work.printed.items (spec.pieces (view.tree c.args.tree.now)) c.loop-work.stack c.pop.new.self c.in-Some.work c.in-Some.ensures c.loop-work.invariant c.in-Piece.piece c.push-in-Piece.new.self.items c.in-Piece.is c.in_ok-push-in-Piece.ensures.items
 
 pub loop-work-smaller : goal.loop-work-smaller
-loop-work-smaller c = node_costs c.args.tree.now.nodes.items c.loop-work.stack c.pop.new.self c.in-Some.work c.in-Some.ensures c.in-Node.number c.in-Node.context c.open.new.stack c.in-Node.is (rw c.nodes-nodes.ensures at c.in_ok-open-in-Node.ensures)
+loop-work-smaller c = node_costs c.args.tree.now.nodes.items c.loop-work.stack c.pop.new.self c.in-Some.work c.in-Some.ensures c.in-Node.number c.in-Node.context c.open.new.stack c.in-Node.is (rw c.nodes-nodes.ensures.nodes at c.in_ok-open-in-Node.ensures)
 
 pub loop-work-preserved : goal.loop-work-preserved
-loop-work-preserved c = node_said c.args.tree.now.nodes.items c.loop-work.printed.items (spec.pieces (view.tree c.args.tree.now)) c.loop-work.stack c.pop.new.self c.in-Some.work c.in-Some.ensures c.loop-work.invariant c.in-Node.number c.in-Node.context c.open.new.stack c.in-Node.is (rw c.nodes-nodes.ensures at c.in_ok-open-in-Node.ensures)
+loop-work-preserved c = node_said c.args.tree.now.nodes.items c.loop-work.printed.items (spec.pieces (view.tree c.args.tree.now)) c.loop-work.stack c.pop.new.self c.in-Some.work c.in-Some.ensures c.loop-work.invariant c.in-Node.number c.in-Node.context c.open.new.stack c.in-Node.is (rw c.nodes-nodes.ensures.nodes at c.in_ok-open-in-Node.ensures)
 
 pub returns : goal.returns
 returns c = done c.args.tree.now.nodes.items c.loop-work.printed.items (spec.pieces (view.tree c.args.tree.now)) c.loop-work.stack c.in_default.ensures.0 c.loop-work.invariant
