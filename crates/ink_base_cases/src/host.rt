@@ -1,7 +1,7 @@
 //! The adapters over the system: files of the folder that the program runs in, and streams.
 
 use crate::memory::{read, send, write};
-use ink_base::{HostFiles, HostSink};
+use ink_devices::{HostFiles, HostSink};
 use std::alloc::{AllocError, Global};
 use std::io;
 use std::io::{ErrorKind, Write};

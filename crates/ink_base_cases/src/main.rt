@@ -16,7 +16,7 @@ mod texts;
 mod values;
 mod words;
 
-use ink_base::{HostSink, write_whole};
+use ink_devices::{HostSink, write_whole};
 use std::{fs, io};
 
 fn main(rt: HostRuntime) -> io::Result<()> {

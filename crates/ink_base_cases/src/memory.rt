@@ -1,6 +1,7 @@
 //! Files and sinks in memory that fail by a plan.
 
-use ink_base::{Failed, FileFault, Files, MemFiles, MemSink, Sink, Text, write_whole};
+use ink_base::Text;
+use ink_devices::{Failed, FileFault, Files, MemFiles, MemSink, Sink, write_whole};
 use std::alloc::{AllocError, Global};
 
 /// What the calls answer, in order, and what the files and the sinks hold then.

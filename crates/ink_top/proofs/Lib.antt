@@ -1,3 +1,7 @@
 pub mod Clauses
+pub mod Meanings
+pub mod Promise
 pub mod Stands
+pub mod Telling
 pub mod Verdicts
+pub mod WrongWords

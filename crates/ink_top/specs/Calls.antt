@@ -1,15 +1,15 @@
--- What comes of a source, of a file and of the words, before it is told.
-use Rattle.std.specs.Prelude.{◌≡◌, ℕ, ◌+◌, ◌<◌, ◌⊎◌, List, [], Option, Some}
+-- What comes of a source, of a file and of the words before it is told, and how it is told.
+use Rattle.std.specs.Prelude.{◌≡◌, ℕ, ◌+◌, ◌<◌, ◌⊎◌, List, [], ◌++◌, length, take, Some}
 use Rattle.ink_base.specs.Limits.{limit_of}
 use Rattle.ink_base.specs.declared.limits.Limit.TheVariants.{Source}
-use Rattle.ink_devices.specs.Outside.{Directory, Reads, CountsFault, CutsWrite}
-use Rattle.ink_devices.specs.declared.faults.Faults.{Faults}
+use Rattle.ink_devices.specs.Outside.{Reads, CountsFault, appended, CutsWrite}
 use Rattle.ink_words.specs.declared.command.Command.{Command}
 use Rattle.ink_words.specs.declared.command.Command.TheVariants as command
 use Rattle.ink_words.specs.Commands.{Word, Asked, IsOrder, IsWrongWord}
 use Rattle.ink_reading.specs.Reading as reading
 use Rattle.ink_top.specs.Causes.{cause_text}
-use Rattle.ink_top.specs.Runs.{SinkState, Gets, Replays, ReplaysCut}
+use Rattle.ink_top.specs.Devices.{Change, FilesState, SinkState, HasFailed, Gets, Cuts}
+use Rattle.ink_top.specs.Runs.{Replays, ReplaysCut}
 use Rattle.ink_round.specs.ReadsBack.{IsPrint}
 use Rattle.ink_top.specs.Verdict.{IsOnlyVerdict}
 use Rattle.ink_top.specs.Verdict as verdict
@@ -22,71 +22,110 @@ abbrev pub most_read : List ℕ → ℕ
 most_read limits = limit_of Source limits + 1
 
 -- the file gave no bytes, by the cause
-abbrev pub IsUnread : Cause → Word → Faults → Faults → Type 0
-IsUnread cause file old new =
-    ((cause ≡ ReadFault) × (old.count < new.count) × (new.name ≡ Some file)) ⊎ ((cause ≡ OutOfMemory) × (new ≡ old))
+abbrev pub IsUnread : Cause → Word → Change FilesState → Type 0
+IsUnread cause file files =
+    ((cause ≡ ReadFault) × (files.before.reads.count < files.after.reads.count) × (files.after.reads.name ≡ Some file))
+    ⊎ ((cause ≡ OutOfMemory) × (files.after.reads ≡ files.before.reads))
 
 -- nothing was run or printed: there is no event, and the output is as it was
-pub record IsUntouched (journal : List ℕ) (old new : SinkState) : Type 0 where
+pub record IsIdle (journal : List ℕ) (out : Change SinkState) : Type 0 where
   pub no-event : journal ≡ []
-  pub output : new ≡ old
-
--- a print went into the sink in part, which failed
-pub record CutsPrint (text : List ℕ) (old new : SinkState) : Type 0 where
-  pub cuts : CutsWrite old.contents new.contents text
-  pub failed : old.faults < new.faults
+  pub output : out.after ≡ out.before
 
 -- What came of a source that is to run, by the cause.
-abbrev pub RanSource : List ℕ → Cause → List ℕ → List ℕ → SinkState → SinkState → Type 0
-RanSource limits Quiet bytes journal old new =
-    (program : Program) × IsOnlyVerdict limits bytes (verdict.Accepted program) × (it : Replays program journal old new) × IsQuiet it.world
-RanSource limits Written bytes journal old new = ⊥
-RanSource limits (Refused refusal) bytes journal old new = IsOnlyVerdict limits bytes (verdict.Refused refusal) × IsUntouched journal old new
-RanSource limits (Usage number) bytes journal old new = ⊥
-RanSource limits ReadFault bytes journal old new = ⊥
-RanSource limits WriteFault bytes journal old new =
-    (program : Program) × IsOnlyVerdict limits bytes (verdict.Accepted program) × ReplaysCut program journal old new
-RanSource limits OutOfMemory bytes journal old new =
-    IsUntouched journal old new ⊎ ((program : Program) × IsOnlyVerdict limits bytes (verdict.Accepted program) × Replays program journal old new)
-RanSource limits Unbuilt bytes journal old new = IsOnlyVerdict limits bytes verdict.Unbuilt × IsUntouched journal old new
+abbrev pub RanSource : List ℕ → Cause → List ℕ → List ℕ → Change SinkState → Type 0
+RanSource limits Quiet bytes journal out =
+    (program : Program) × IsOnlyVerdict limits bytes (verdict.Accepted program) × (it : Replays program journal out) × IsQuiet it.world
+RanSource limits Written bytes journal out = ⊥
+RanSource limits (Refused refusal) bytes journal out = IsOnlyVerdict limits bytes (verdict.Refused refusal) × IsIdle journal out
+RanSource limits (Usage number) bytes journal out = ⊥
+RanSource limits ReadFault bytes journal out = ⊥
+RanSource limits WriteFault bytes journal out =
+    (program : Program) × IsOnlyVerdict limits bytes (verdict.Accepted program) × ReplaysCut program journal out
+RanSource limits OutOfMemory bytes journal out =
+    IsIdle journal out ⊎ ((program : Program) × IsOnlyVerdict limits bytes (verdict.Accepted program) × Replays program journal out)
+RanSource limits Unbuilt bytes journal out = IsOnlyVerdict limits bytes verdict.Unbuilt × IsIdle journal out
 
--- What came of a source that is to be printed, by the cause. No cause comes with an event.
-abbrev pub PrintedSource : List ℕ → Cause → List ℕ → SinkState → SinkState → Type 0
-PrintedSource limits Quiet bytes old new = ⊥
-PrintedSource limits Written bytes old new = (text : List ℕ) × IsPrint limits bytes text × Gets old new text
-PrintedSource limits (Refused refusal) bytes old new = reading.ComesOnlyTo limits bytes (reading.Refuses refusal) × (new ≡ old)
-PrintedSource limits (Usage number) bytes old new = ⊥
-PrintedSource limits ReadFault bytes old new = ⊥
-PrintedSource limits WriteFault bytes old new = (text : List ℕ) × IsPrint limits bytes text × CutsPrint text old new
-PrintedSource limits OutOfMemory bytes old new = new ≡ old
-PrintedSource limits Unbuilt bytes old new = ⊥
+-- What came of a source that is to be printed, by the cause. No cause comes with an event, and without memory nothing
+-- was written.
+abbrev pub PrintedSource : List ℕ → Cause → List ℕ → Change SinkState → Type 0
+PrintedSource limits Quiet bytes out = ⊥
+PrintedSource limits Written bytes out = (text : List ℕ) × IsPrint limits bytes text × Gets out text
+PrintedSource limits (Refused refusal) bytes out =
+    reading.ComesOnlyTo limits bytes (reading.Refuses refusal) × (out.after ≡ out.before)
+PrintedSource limits (Usage number) bytes out = ⊥
+PrintedSource limits ReadFault bytes out = ⊥
+PrintedSource limits WriteFault bytes out = (text : List ℕ) × IsPrint limits bytes text × Cuts out text
+PrintedSource limits OutOfMemory bytes out = out.after ≡ out.before
+PrintedSource limits Unbuilt bytes out = ⊥
 
 -- what came of a source, by the command
-abbrev pub Came : Command → List ℕ → Cause → List ℕ → List ℕ → SinkState → SinkState → Type 0
-Came command.Run limits cause bytes journal old new = RanSource limits cause bytes journal old new
-Came command.Print limits cause bytes journal old new = PrintedSource limits cause bytes old new × (journal ≡ [])
+abbrev pub Came : Command → List ℕ → Cause → List ℕ → List ℕ → Change SinkState → Type 0
+Came command.Run limits cause bytes journal out = RanSource limits cause bytes journal out
+Came command.Print limits cause bytes journal out = PrintedSource limits cause bytes out × (journal ≡ [])
 
 -- What came of a file. Either its first bytes were read, or nothing was done.
-abbrev pub Did : Asked → Cause → Option Directory → Faults → Faults → List ℕ → SinkState → SinkState → Type 0
-Did asked cause directory reads-old reads-new journal old new =
-    ((bytes : List ℕ) × Reads directory asked.file (most_read asked.limits) bytes × (reads-new ≡ reads-old)
-    × Came asked.command asked.limits cause bytes journal old new)
-    ⊎ (IsUntouched journal old new × IsUnread cause asked.file reads-old reads-new)
-
--- a last line went into the sink whole, or the sink failed
-abbrev pub IsToldLast : List ℕ → SinkState → SinkState → Type 0
-IsToldLast line old new = Gets old new line ⊎ CountsFault old.faults new.faults
-
--- A cause is told, and the cause that then holds is the same; or there was no memory for its text, and that is told;
--- or the sink failed, which the cause says unless it is want of memory.
-abbrev pub Tells : Cause → Cause → Word → SinkState → SinkState → Type 0
-Tells cause told file old new =
-    ((told ≡ cause ⊎ told ≡ OutOfMemory) × Gets old new (cause_text told file))
-    ⊎ ((told ≡ WriteFault ⊎ told ≡ OutOfMemory) × (old.faults < new.faults))
+abbrev pub Did : Asked → Cause → Change FilesState → List ℕ → Change SinkState → Type 0
+Did asked cause files journal out =
+    ((bytes : List ℕ) × Reads files.before.held asked.file (most_read asked.limits) bytes
+    × (files.after.reads ≡ files.before.reads) × Came asked.command asked.limits cause bytes journal out)
+    ⊎ (IsIdle journal out × IsUnread cause asked.file files)
 
 -- What came of the words, by the cause, before that is told. `file` is the name of the file that they name, if any.
-abbrev pub Performed : Cause → Word → List Word → Option Directory → Faults → Faults → List ℕ → SinkState → SinkState → Type 0
-Performed cause file words directory reads-old reads-new journal old new =
-    ((number : ℕ) × (cause ≡ Usage number) × IsWrongWord words number × IsUntouched journal old new × (reads-new ≡ reads-old))
+abbrev pub Performed : Cause → Word → List Word → Change FilesState → List ℕ → Change SinkState → Type 0
+Performed cause file words files journal out =
+    ((number : ℕ) × (cause ≡ Usage number) × IsWrongWord words number × IsIdle journal out
+    × (files.after.reads ≡ files.before.reads))
     ⊎ ((asked : Asked) × IsOrder asked words × ((other : Asked) → IsOrder other words → other ≡ asked) × (asked.file ≡ file)
-    × Did asked cause directory reads-old reads-new journal old new)
+    × Did asked cause files journal out)
+
+-- a line was tried once: the sink got it whole, or failed within it
+abbrev pub TriesLine : List ℕ → Change SinkState → Type 0
+TriesLine line sink =
+    Gets sink line
+    ⊎ (CutsWrite sink.before.contents sink.after.contents line × CountsFault sink.before.faults sink.after.faults)
+
+-- the first bytes of a text, perhaps none, perhaps all
+abbrev pub IsFront : List ℕ → List ℕ → Type 0
+IsFront front text = (count : ℕ) × (front ≡ take count text)
+
+-- the first bytes of a text, and not all
+abbrev pub IsCutFront : List ℕ → List ℕ → Type 0
+IsCutFront front text = (count : ℕ) × (count < length text) × (front ≡ take count text)
+
+-- A sink failed within one text, and then got another one or a front of it.
+pub record Replaces (sink : Change SinkState) (text other : List ℕ) : Type 0 where
+  pub failed : HasFailed sink
+  pub part : List ℕ
+  pub is-part : IsCutFront part text
+  pub front : List ℕ
+  pub is-front : IsFront front other
+  pub contents : sink.after.contents ≡ appended sink.before.contents (part ++ front)
+
+-- A cause whose text takes memory is told, and what cause then holds: the same, or there was no memory for the text,
+-- or the sink failed within it. What then holds is told in its place, by a text that takes no memory.
+abbrev pub TellsMade : Cause → Cause → Word → Change SinkState → Type 0
+TellsMade cause told file err =
+    ((told ≡ cause) × Gets err (cause_text cause file))
+    ⊎ ((told ≡ OutOfMemory) × (Gets err (cause_text OutOfMemory file) ⊎ Cuts err (cause_text OutOfMemory file)))
+    ⊎ ((told ≡ WriteFault) × Replaces err (cause_text cause file) (cause_text WriteFault file))
+
+-- a cause whose text takes no memory is told, by one try, and holds in any case
+abbrev pub TellsFixed : Cause → Cause → Word → Change SinkState → Type 0
+TellsFixed cause told file err =
+    (told ≡ cause) × (Gets err (cause_text cause file) ⊎ Cuts err (cause_text cause file))
+
+-- a cause of which nothing is told
+abbrev pub TellsNothing : Cause → Cause → Change SinkState → Type 0
+TellsNothing cause told err = (told ≡ cause) × (err.after ≡ err.before)
+
+-- how a cause is told, and what cause then holds
+abbrev pub Tells : Cause → Cause → Word → Change SinkState → Type 0
+Tells Quiet told file err = TellsNothing Quiet told err
+Tells Written told file err = TellsNothing Written told err
+Tells (Refused refusal) told file err = TellsMade (Refused refusal) told file err
+Tells (Usage number) told file err = TellsMade (Usage number) told file err
+Tells ReadFault told file err = TellsMade ReadFault told file err
+Tells WriteFault told file err = TellsFixed WriteFault told file err
+Tells OutOfMemory told file err = TellsFixed OutOfMemory told file err
+Tells Unbuilt told file err = TellsMade Unbuilt told file err

@@ -1,5 +1,6 @@
 pub mod Calls
 pub mod Causes
+pub mod Devices
 pub mod Headline
 pub mod Runs
 pub mod Verdict

@@ -3,17 +3,16 @@ ghost use Rattle.std.specs.Prelude.{◌≡◌, ◌<◌, ◌≤◌, [], IfOk, OnO
 ghost use Rattle.ink_devices.specs.Outside.{greatest_count, Reads};
 ghost use Rattle.ink_words.specs.declared.command.Command.TheVariants.{Run, Print};
 ghost use Rattle.ink_words.specs.Commands.{asked, asked_by};
-ghost use Rattle.ink_top.specs.Calls.{most_read, IsUnread, IsToldLast, Did, Performed, PrintedSource, RanSource, Tells};
+ghost use Rattle.ink_top.specs.Calls.{most_read, IsUnread, Did, Performed, PrintedSource, RanSource, TriesLine, TellsMade, Tells};
 ghost use Rattle.ink_top.specs.Causes.{status_of};
-ghost use Rattle.ink_top.specs.Headline.{RefusesModule, LeavesUnbuilt, WritesOutput, ReachesEnd, WritesPrint, KeepsModule, RefusesWords, Means, ShowsFaults, TellsCause};
-ghost use Rattle.ink_top.specs.Runs.{state_of};
+ghost use Rattle.ink_top.specs.Devices.{KeepsFiles, files_of, sink_of};
+ghost use Rattle.ink_top.specs.Headline.{IsPromised};
 
 use crate::cause::Cause;
 use crate::run::{RunFault, run};
 use crate::verdict::{ModuleKind, judge};
-use ink_base::{
-    Failed, FileFault, Files, Gate, Journal, JudgeFault, Limit, Limits, Sink, Text, write_whole,
-};
+use ink_base::{Journal, JudgeFault, Limit, Limits, Text};
+use ink_devices::{Failed, FileFault, Files, Gate, Sink, write_whole};
 use ink_round::{print_reads_back, print_source};
 use ink_words::{Order, read_words};
 use std::alloc::Global;
@@ -29,7 +28,7 @@ fn run_source<K: Sink>(
     requires empty { journal.old.entries ≡ [] }
     requires faults { K.faults out.old < greatest_count }
     ensures { RanSource limits.now result source.now journal.new.entries
-        (state_of K.contents K.faults out.old) (state_of K.contents K.faults out.new) }
+        (record { before = sink_of K.contents K.faults out.old; after = sink_of K.contents K.faults out.new }) }
 {
     match judge(alloc, source, limits) {
         Err(JudgeFault::Refused(refusal)) => Cause::Refused(refusal),
@@ -47,7 +46,7 @@ fn run_source<K: Sink>(
 fn write_print<K: Sink>(alloc: Global, source: &[u8], limits: &Limits, out: &mut K) -> Cause
     requires { K.faults out.old < greatest_count }
     ensures { PrintedSource limits.now result source.now
-        (state_of K.contents K.faults out.old) (state_of K.contents K.faults out.new) }
+        (record { before = sink_of K.contents K.faults out.old; after = sink_of K.contents K.faults out.new }) }
 {
     match print_source(alloc, source, limits) {
         Err(JudgeFault::Refused(refusal)) => Cause::Refused(refusal),
@@ -69,9 +68,14 @@ fn read_source<F: Files>(
     requires { (F.read_faults files.old).count < greatest_count }
     ensures bytes { IfOk result (λ source. Reads (F.held files.old) file.now (most_read limits.now) source.items) }
     ensures read { OnOk result (F.read_faults files.new ≡ F.read_faults files.old) }
-    ensures unread { IfErr result (λ cause. IsUnread cause file.now (F.read_faults files.old) (F.read_faults files.new)) }
-    ensures held { F.held files.new ≡ F.held files.old }
-    ensures write_faults { F.write_faults files.new ≡ F.write_faults files.old }
+    ensures unread { IfErr result (λ cause. IsUnread cause file.now (record {
+      before = files_of F.held F.read_faults F.write_faults files.old;
+      after = files_of F.held F.read_faults F.write_faults files.new;
+    })) }
+    ensures files { KeepsFiles (record {
+      before = files_of F.held F.read_faults F.write_faults files.old;
+      after = files_of F.held F.read_faults F.write_faults files.new;
+    }) }
 {
     match files.read(alloc, file, limits.get(Limit::Source) + 1) {
         Err(FileFault::Failed) => Err(Cause::ReadFault),
@@ -92,10 +96,17 @@ fn run_file<F: Files, K: Sink>(
     requires empty { journal.old.entries ≡ [] }
     requires read_faults { (F.read_faults files.old).count < greatest_count }
     requires faults { K.faults out.old < greatest_count }
-    ensures did { Did (asked Run file.now limits.now) result (F.held files.old) (F.read_faults files.old) (F.read_faults files.new)
-        journal.new.entries (state_of K.contents K.faults out.old) (state_of K.contents K.faults out.new) }
-    ensures held { F.held files.new ≡ F.held files.old }
-    ensures write_faults { F.write_faults files.new ≡ F.write_faults files.old }
+    ensures did { Did (asked Run file.now limits.now) result
+        (record {
+          before = files_of F.held F.read_faults F.write_faults files.old;
+          after = files_of F.held F.read_faults F.write_faults files.new;
+        })
+        journal.new.entries
+        (record { before = sink_of K.contents K.faults out.old; after = sink_of K.contents K.faults out.new }) }
+    ensures files { KeepsFiles (record {
+      before = files_of F.held F.read_faults F.write_faults files.old;
+      after = files_of F.held F.read_faults F.write_faults files.new;
+    }) }
 {
     match read_source(alloc, file, limits, files) {
         Err(cause) => cause,
@@ -113,10 +124,17 @@ fn print_file<F: Files, K: Sink>(
 ) -> Cause
     requires read_faults { (F.read_faults files.old).count < greatest_count }
     requires faults { K.faults out.old < greatest_count }
-    ensures did { Did (asked Print file.now limits.now) result (F.held files.old) (F.read_faults files.old) (F.read_faults files.new)
-        [] (state_of K.contents K.faults out.old) (state_of K.contents K.faults out.new) }
-    ensures held { F.held files.new ≡ F.held files.old }
-    ensures write_faults { F.write_faults files.new ≡ F.write_faults files.old }
+    ensures did { Did (asked Print file.now limits.now) result
+        (record {
+          before = files_of F.held F.read_faults F.write_faults files.old;
+          after = files_of F.held F.read_faults F.write_faults files.new;
+        })
+        []
+        (record { before = sink_of K.contents K.faults out.old; after = sink_of K.contents K.faults out.new }) }
+    ensures files { KeepsFiles (record {
+      before = files_of F.held F.read_faults F.write_faults files.old;
+      after = files_of F.held F.read_faults F.write_faults files.new;
+    }) }
 {
     match read_source(alloc, file, limits, files) {
         Err(cause) => cause,
@@ -143,11 +161,18 @@ fn obey<'a, F: Files, K: Sink>(
     requires empty { journal.old.entries ≡ [] }
     requires read_faults { (F.read_faults files.old).count < greatest_count }
     requires faults { K.faults out.old < greatest_count }
-    ensures did { Did (asked_by order.entry) result.cause (F.held files.old) (F.read_faults files.old) (F.read_faults files.new)
-        journal.new.entries (state_of K.contents K.faults out.old) (state_of K.contents K.faults out.new) }
+    ensures did { Did (asked_by order.entry) result.cause
+        (record {
+          before = files_of F.held F.read_faults F.write_faults files.old;
+          after = files_of F.held F.read_faults F.write_faults files.new;
+        })
+        journal.new.entries
+        (record { before = sink_of K.contents K.faults out.old; after = sink_of K.contents K.faults out.new }) }
     ensures file { (asked_by order.entry).file ≡ result.file.now }
-    ensures held { F.held files.new ≡ F.held files.old }
-    ensures write_faults { F.write_faults files.new ≡ F.write_faults files.old }
+    ensures files { KeepsFiles (record {
+      before = files_of F.held F.read_faults F.write_faults files.old;
+      after = files_of F.held F.read_faults F.write_faults files.new;
+    }) }
 {
     match order {
         Order::Run { file, limits } => Found {
@@ -173,10 +198,16 @@ fn perform<'a, F: Files, K: Sink>(
     requires read_faults { (F.read_faults files.old).count < greatest_count }
     requires faults { K.faults out.old < greatest_count }
     ensures performed { Performed result.cause result.file.now words.now
-        (F.held files.old) (F.read_faults files.old) (F.read_faults files.new)
-        journal.new.entries (state_of K.contents K.faults out.old) (state_of K.contents K.faults out.new) }
-    ensures held { F.held files.new ≡ F.held files.old }
-    ensures write_faults { F.write_faults files.new ≡ F.write_faults files.old }
+        (record {
+          before = files_of F.held F.read_faults F.write_faults files.old;
+          after = files_of F.held F.read_faults F.write_faults files.new;
+        })
+        journal.new.entries
+        (record { before = sink_of K.contents K.faults out.old; after = sink_of K.contents K.faults out.new }) }
+    ensures files { KeepsFiles (record {
+      before = files_of F.held F.read_faults F.write_faults files.old;
+      after = files_of F.held F.read_faults F.write_faults files.new;
+    }) }
 {
     match read_words(words) {
         Err(number) => Found {
@@ -187,32 +218,42 @@ fn perform<'a, F: Files, K: Sink>(
     }
 }
 
-/// Writes a last line, at one try, and gives its cause. A failure changes nothing.
-fn tell_last<E: Sink>(cause: Cause, line: &[u8], err: &mut E) -> Cause
+/// Tries a line once, and gives its cause. A failure changes nothing.
+fn try_line<E: Sink>(cause: Cause, line: &[u8], err: &mut E) -> Cause
     ensures cause { result ≡ cause }
     ensures faults { E.faults err.old ≤ E.faults err.new }
-    ensures told { IsToldLast line.now (state_of E.contents E.faults err.old) (state_of E.contents E.faults err.new) }
+    ensures told { TriesLine line.now (record { before = sink_of E.contents E.faults err.old; after = sink_of E.contents E.faults err.new }) }
 {
     let _ = write_whole(err, line);
     cause
 }
 
-/// Tells the cause of a call, and gives the cause that then holds: the same, or want of memory for its text, or a
-/// fault of the writing.
-fn tell<E: Sink>(alloc: Global, cause: Cause, file: &[u8], err: &mut E) -> Cause
+/// Tells a cause whose text takes memory, and gives the cause that then holds: the same, or want of memory for the
+/// text, or a fault of the writing. What takes its place is told without memory.
+fn tell_made<E: Sink>(alloc: Global, cause: Cause, file: &[u8], err: &mut E) -> Cause
     requires { E.faults err.old < greatest_count }
-    ensures { Tells cause result file.now (state_of E.contents E.faults err.old) (state_of E.contents E.faults err.new) }
+    ensures { TellsMade cause result file.now (record { before = sink_of E.contents E.faults err.old; after = sink_of E.contents E.faults err.new }) }
 {
     let Ok(text) = cause.text(alloc, file) else {
-        return tell_last(Cause::OutOfMemory, b"out of memory\n", err);
+        return try_line(Cause::OutOfMemory, b"out of memory\n", err);
     };
-    if write_whole(err, &text).is_ok() {
-        return cause;
+    match write_whole(err, &text) {
+        Ok(()) => cause,
+        Err(Failed) => try_line(Cause::WriteFault, b"write fault\n", err),
     }
+}
+
+/// Tells the cause of a call, and gives the cause that then holds. It takes memory only for the text of a cause after
+/// which nothing was done, so that what was written is never told as want of memory.
+fn tell<E: Sink>(alloc: Global, cause: Cause, file: &[u8], err: &mut E) -> Cause
+    requires { E.faults err.old < greatest_count }
+    ensures { Tells cause result file.now (record { before = sink_of E.contents E.faults err.old; after = sink_of E.contents E.faults err.new }) }
+{
     match cause {
-        Cause::OutOfMemory => Cause::OutOfMemory,
-        Cause::WriteFault => Cause::WriteFault,
-        _ => tell_last(Cause::WriteFault, b"write fault\n", err),
+        Cause::Quiet | Cause::Written => cause,
+        Cause::WriteFault => try_line(Cause::WriteFault, b"write fault\n", err),
+        Cause::OutOfMemory => try_line(Cause::OutOfMemory, b"out of memory\n", err),
+        early => tell_made(alloc, early, file, err),
     }
 }
 
@@ -241,37 +282,20 @@ pub fn inko_main<F: Files, K: Sink + Send, E: Sink, G: Gate + Sync>(
     requires read_faults { (F.read_faults files.old).count < greatest_count }
     requires out_faults { K.faults out < greatest_count }
     requires err_faults { E.faults err.old < greatest_count }
-
-    ensures refused_module { RefusesModule words.now (F.held files.old) result.cause result.journal.entries
-        (state_of K.contents K.faults out) (state_of K.contents K.faults result.out) }
-    ensures unbuilt { LeavesUnbuilt words.now (F.held files.old) result.cause result.journal.entries
-        (state_of K.contents K.faults out) (state_of K.contents K.faults result.out) }
-    ensures output { WritesOutput words.now (F.held files.old) result.journal.entries
-        (state_of K.contents K.faults out) (state_of K.contents K.faults result.out) }
-    ensures end { ReachesEnd words.now (F.held files.old) result.cause }
-    ensures print { WritesPrint words.now (F.held files.old) result.cause result.journal.entries
-        (state_of K.contents K.faults out) (state_of K.contents K.faults result.out) }
-    ensures same_module { KeepsModule words.now (F.held files.old) }
-    ensures usage { RefusesWords words.now result.cause result.journal.entries
-        (state_of K.contents K.faults out) (state_of K.contents K.faults result.out) }
-
-    // The table of causes, with the status of each.
-    ensures cause { Means result.cause words.now (F.held files.old) (F.read_faults files.old) (F.read_faults files.new)
-        result.journal.entries (state_of K.contents K.faults out) (state_of K.contents K.faults result.out)
-        (state_of E.contents E.faults err.old) (state_of E.contents E.faults err.new) }
+    ensures promise { IsPromised (record {
+      words = words.now;
+      files = record {
+        before = files_of F.held F.read_faults F.write_faults files.old;
+        after = files_of F.held F.read_faults F.write_faults files.new;
+      };
+      out = record { before = sink_of K.contents K.faults out; after = sink_of K.contents K.faults result.out };
+      err = record { before = sink_of E.contents E.faults err.old; after = sink_of E.contents E.faults err.new };
+      cause = result.cause;
+      journal = result.journal.entries;
+    }) }
     ensures status { result.status ≡ status_of result.cause }
-
-    // The files stay as they are.
-    ensures files { F.held files.new ≡ F.held files.old }
-    ensures no_write { F.write_faults files.new ≡ F.write_faults files.old }
-
-    ensures faults { ShowsFaults result.cause (F.read_faults files.old) (F.read_faults files.new)
-        (state_of K.contents K.faults out) (state_of K.contents K.faults result.out)
-        (state_of E.contents E.faults err.old) (state_of E.contents E.faults err.new) }
-    ensures told { TellsCause words.now result.cause
-        (state_of E.contents E.faults err.old) (state_of E.contents E.faults err.new) }
 {
-    // A law, for the clause on the same module: it does nothing.
+    // A law, for the promise on the same module: it does nothing.
     print_reads_back();
     let mut journal = Journal::new(alloc);
     let found = perform(alloc, words, files, &mut journal, &mut out);

@@ -7,7 +7,7 @@ use itoa::Buffer;
 use std::alloc::{AllocError, Global};
 
 /// Why a call ended.
-#[derive(Debug, Drop)]
+#[derive(Drop)]
 pub enum Cause {
     /// The run came to its end: each process waits for a message, and there is none.
     Quiet,

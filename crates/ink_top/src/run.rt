@@ -1,12 +1,14 @@
 //! A run of a module of the first form: one process, which takes its message and prints its texts.
 ghost use Rattle.std.specs.Prelude.{◌≡◌, ◌<◌, [], IfOk};
 ghost use Rattle.ink_devices.specs.Outside.{greatest_count};
-ghost use Rattle.ink_top.specs.Runs.{Prints, Runs, state_of};
+ghost use Rattle.ink_top.specs.Devices.{sink_of};
+ghost use Rattle.ink_top.specs.Runs.{Prints, Runs};
 ghost use Rattle.ink_top.specs.World.{line_of};
 ghost use Rattle.ink_top.specs.declared.run.RunFault.TheVariants.{SinkFailed, OutOfMemory};
 
 use crate::cause::line;
-use ink_base::{Failed, Journal, Sink, Text, write_whole};
+use ink_base::{Journal, Text};
+use ink_devices::{Failed, Sink, write_whole};
 use std::alloc::{AllocError, AllocFailed, Global};
 
 /// The number of the one process.
@@ -59,7 +61,7 @@ fn print<K: Sink>(
 ) -> Result<(), RunFault>
     requires { K.faults out.old < greatest_count }
     ensures { Prints result text.now journal.old.entries journal.new.entries
-        (state_of K.contents K.faults out.old) (state_of K.contents K.faults out.new) }
+        (record { before = sink_of K.contents K.faults out.old; after = sink_of K.contents K.faults out.new }) }
 {
     let line = line_of(alloc, text)?;
     journal.reserve(1)?;
@@ -78,7 +80,7 @@ pub fn run<K: Sink>(
     requires empty { journal.old.entries ≡ [] }
     requires faults { K.faults out.old < greatest_count }
     ensures { Runs result texts.now journal.new.entries
-        (state_of K.contents K.faults out.old) (state_of K.contents K.faults out.new) }
+        (record { before = sink_of K.contents K.faults out.old; after = sink_of K.contents K.faults out.new }) }
 {
     journal.reserve(1)?;
     journal.add(MAIN);

@@ -1,49 +1,99 @@
 //! Files and sinks in memory that fail by a plan.
 ghost use Rattle.std.specs.Prelude.{◌≡◌, IfOk, Some};
+ghost use Rattle.ink_devices.specs.Stored.{bytes_under};
 
-use ink_base::{Failed, MemFiles, MemSink, Sink, Text};
+use ink_base::Text;
+use ink_devices::{Failed, FileFault, Files, MemFiles, MemSink, Sink};
 use std::alloc::{AllocError, Global};
 
 /// More bytes than a case writes.
 const ROOM: u64 = 1000;
 
+/// What the read of the file comes to.
+#[derive(Clone, Copy)]
+pub enum Reading {
+    Bytes,
+    Fault,
+    NoMemory,
+}
+
+/// How a sink fails.
+#[derive(Clone, Copy)]
+pub struct Plan {
+    /// The most bytes that its first call takes.
+    pub first: u64,
+    /// The numbers of the calls that fail.
+    pub failing: &'static [u64],
+}
+
 /// How the devices of a call fail.
 #[derive(Clone, Copy)]
 pub struct Devices {
-    /// Whether the file can be read.
-    pub is_read: bool,
-    /// How many bytes the output takes at its first call, where it fails at the second.
-    pub out_takes: Option<u64>,
-    /// The same of the errors.
-    pub err_takes: Option<u64>,
+    pub reading: Reading,
+    pub out: Plan,
+    pub err: Plan,
 }
 
-/// Files with one of them.
-pub fn held_file(
-    alloc: Global,
-    name: &str,
-    bytes: Vec<u8>,
-    is_read: bool,
-) -> Result<MemFiles, AllocError>
-    ensures { IfOk result (λ files. files.reads.count ≡ 0) }
-{
-    let mut held = Vec::new(alloc);
-    held.push((Text::of(alloc, name.as_bytes())?, bytes))?;
-    if is_read {
-        Ok(MemFiles::new(held, Vec::new(alloc)))
-    } else {
-        Ok(MemFiles::new(held, vec![in alloc; 1]?))
+/// Files in memory, for whose reads there may be no memory.
+#[derive(Drop)]
+pub struct CaseFiles {
+    files: MemFiles,
+    has_memory: bool,
+}
+
+impl CaseFiles {
+    /// Files with one of them.
+    pub fn with_file(
+        alloc: Global,
+        name: &str,
+        bytes: Vec<u8>,
+        reading: Reading,
+    ) -> Result<CaseFiles, AllocError>
+        ensures { IfOk result (λ files. files.files.reads.count ≡ 0) }
+    {
+        let mut held = Vec::new(alloc);
+        held.push((Text::of(alloc, name.as_bytes())?, bytes))?;
+        let failing = match reading {
+            Reading::Bytes | Reading::NoMemory => Vec::new(alloc),
+            Reading::Fault => vec![in alloc; 1]?,
+        };
+        Ok(CaseFiles {
+            files: MemFiles::new(held, failing),
+            has_memory: !matches!(reading, Reading::NoMemory),
+        })
     }
 }
 
-/// A sink that never fails, or takes so many bytes at its first call and fails at its second.
-pub fn sink(alloc: Global, first: Option<u64>) -> Result<MemSink, AllocError>
+impl Files for CaseFiles {
+    ghost held = { λ f. Some (bytes_under f.files.files) };
+
+    ghost read_faults = { λ f. f.files.reads };
+
+    ghost write_faults = { λ f. f.files.writes };
+
+    fn read(&mut self, alloc: Global, name: &Text, most: u64) -> Result<Vec<u8>, FileFault> {
+        if self.has_memory {
+            self.files.read(alloc, name, most)
+        } else {
+            Err(FileFault::OutOfMemory)
+        }
+    }
+
+    fn write(&mut self, name: &Text, bytes: &[u8]) -> Result<(), FileFault> {
+        self.files.write(name, bytes)
+    }
+}
+
+/// A sink that fails by a plan.
+pub fn sink(alloc: Global, plan: Plan) -> Result<MemSink, AllocError>
     ensures { IfOk result (λ sink. sink.faults ≡ 0) }
 {
-    match first {
-        None => MemSink::new(alloc, ROOM, Vec::new(alloc), Vec::new(alloc)),
-        Some(most) => MemSink::new(alloc, ROOM, vec![in alloc; 2]?, vec![in alloc; most]?),
-    }
+    MemSink::new(
+        alloc,
+        ROOM,
+        Vec::from_slice(alloc, plan.failing)?,
+        vec![in alloc; plan.first]?,
+    )
 }
 
 /// A sink that counts its calls.

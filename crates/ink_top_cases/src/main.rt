@@ -7,42 +7,120 @@
 
 mod devices;
 
-use crate::devices::{CountingSink, Devices, held_file, sink};
-use ink_base::{Journal, OpenGate, Text};
+use crate::devices::{CaseFiles, CountingSink, Devices, Plan, Reading, sink};
+use ink_base::{Journal, Text};
+use ink_devices::OpenGate;
 use ink_top::inko_main;
 use std::alloc::{AllocError, Global};
 use std::rt::Files;
 use std::{fs, io, str};
 
-/// Devices that never fail.
-const SOUND: Devices = Devices {
-    is_read: true,
-    out_takes: None,
-    err_takes: None,
+/// A sink that never fails.
+const SOUND: Plan = Plan {
+    first: 1000,
+    failing: &[],
 };
 
-/// An output that fails within the first text.
-const FAILING_OUTPUT: Devices = Devices {
-    is_read: true,
-    out_takes: Some(3),
-    err_takes: None,
+/// A sink that takes three bytes, and fails at its second call.
+const CUT_EARLY: Plan = Plan {
+    first: 3,
+    failing: &[2],
 };
 
-/// A file that can't be read, and errors that fail while that is told.
-const FAILING_ERRORS: Devices = Devices {
-    is_read: false,
-    out_takes: None,
-    err_takes: Some(6),
+/// A sink that takes six bytes, and fails at its second call.
+const CUT_LATE: Plan = Plan {
+    first: 6,
+    failing: &[2],
+};
+
+/// A sink that takes six bytes, and then no more.
+const CUT_FOR_GOOD: Plan = Plan {
+    first: 6,
+    failing: &[2, 3],
 };
 
 /// The files of cases, and the devices of each.
-const CASES: [(&str, Devices); 6] = [
-    ("runs", SOUND),
-    ("refusals", SOUND),
-    ("prints", SOUND),
-    ("wrong_words", SOUND),
-    ("failing_output", FAILING_OUTPUT),
-    ("failing_errors", FAILING_ERRORS),
+const CASES: [(&str, Devices); 10] = [
+    (
+        "runs",
+        Devices {
+            reading: Reading::Bytes,
+            out: SOUND,
+            err: SOUND,
+        },
+    ),
+    (
+        "refusals",
+        Devices {
+            reading: Reading::Bytes,
+            out: SOUND,
+            err: SOUND,
+        },
+    ),
+    (
+        "prints",
+        Devices {
+            reading: Reading::Bytes,
+            out: SOUND,
+            err: SOUND,
+        },
+    ),
+    (
+        "wrong_words",
+        Devices {
+            reading: Reading::Bytes,
+            out: SOUND,
+            err: SOUND,
+        },
+    ),
+    (
+        "failing_output",
+        Devices {
+            reading: Reading::Bytes,
+            out: CUT_EARLY,
+            err: SOUND,
+        },
+    ),
+    (
+        "failing_output_untold",
+        Devices {
+            reading: Reading::Bytes,
+            out: CUT_EARLY,
+            err: CUT_LATE,
+        },
+    ),
+    (
+        "failing_errors",
+        Devices {
+            reading: Reading::Fault,
+            out: SOUND,
+            err: CUT_LATE,
+        },
+    ),
+    (
+        "failing_errors_for_good",
+        Devices {
+            reading: Reading::Fault,
+            out: SOUND,
+            err: CUT_FOR_GOOD,
+        },
+    ),
+    (
+        "no_memory",
+        Devices {
+            reading: Reading::NoMemory,
+            out: SOUND,
+            err: SOUND,
+        },
+    ),
+    (
+        "no_memory_untold",
+        Devices {
+            reading: Reading::NoMemory,
+            out: SOUND,
+            err: CUT_EARLY,
+        },
+    ),
 ];
 
 /// The words of a command.
@@ -78,12 +156,12 @@ fn answer(
     words: &[Text],
     devices: Devices,
 ) -> Result<String, AllocError> {
-    let mut files = held_file(alloc, file, source, devices.is_read)?;
+    let mut files = CaseFiles::with_file(alloc, file, source, devices.reading)?;
     let out = CountingSink {
-        sink: sink(alloc, devices.out_takes)?,
+        sink: sink(alloc, devices.out)?,
         calls: 0,
     };
-    let mut err = sink(alloc, devices.err_takes)?;
+    let mut err = sink(alloc, devices.err)?;
     let ended = inko_main(alloc, words, &mut files, out, &mut err, &OpenGate);
     let journal = entries(alloc, &ended.journal)?;
     format!(in alloc;

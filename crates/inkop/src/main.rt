@@ -1,7 +1,8 @@
 //! The program: the words and the devices of the system, one call, and its status.
 #![tactic(auto)]
 
-use ink_base::{HostFiles, HostSink, OpenGate, Text, write_whole};
+use ink_base::Text;
+use ink_devices::{HostFiles, HostSink, OpenGate, write_whole};
 use ink_top::inko_main;
 use std::alloc::AllocError;
 use std::env;

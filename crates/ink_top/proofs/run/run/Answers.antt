@@ -15,7 +15,7 @@ loop-text-init g c =
 pub loop-text-preserved : goal.loop-text-preserved
 loop-text-preserved g c =
     stands_next _ c.text-item.result _ _ _ _ _ _
-    (stands_at _ _ _ c.text-item.result _ _ _ c.loop-text-test.true c.text-item.is c.loop-text.invariant)
+    (stands_at _ _ _ c.text-item.result _ _ c.loop-text-test.true c.text-item.is c.loop-text.invariant)
     c.in_ok-print.ensures.0
     c.in_ok-print.ensures.1
 
@@ -24,8 +24,8 @@ returns-in_err-print g c =
     let p = err_from_is_err_and c.from_residual-in_err-print.result c.from_residual-in_err-print.ensures.1 in
     rw (p.1, p.2)
     (stands_failed c.in_err-print.field-0.0 _ c.text-item.result _ _ _ _ _ _
-    (stands_at _ _ _ c.text-item.result _ _ _ c.loop-text-test.true c.text-item.is c.loop-text.invariant)
+    (stands_at _ _ _ c.text-item.result _ _ c.loop-text-test.true c.text-item.is c.loop-text.invariant)
     c.in_err-print.ensures)
 
 pub returns : goal.returns
-returns g c = stands_done _ _ _ _ (rw (drop_all c.loop-text.text-index c.args.texts.now c.loop-text-test.false) at c.loop-text.invariant)
+returns g c = stands_done _ _ _ (rw (drop_all c.loop-text.text-index c.args.texts.now c.loop-text-test.false) at c.loop-text.invariant)

@@ -4,5 +4,7 @@ use Rattle.ink_top.proofs.run.run.Given as goal
 
 abbrev pub invariant-loop-text : goal.invariant-loop-text
 invariant-loop-text g l = Stands l.texts (drop l.text-index l.texts) l.journal.entries
-    (record { contents = g.K.Sink.contents l.fn.out; faults = g.K.Sink.faults l.fn.out })
-    (record { contents = g.K.Sink.contents l.out; faults = g.K.Sink.faults l.out })
+    (record {
+      before = record { contents = g.K.Sink.contents l.fn.out; faults = g.K.Sink.faults l.fn.out };
+      after = record { contents = g.K.Sink.contents l.out; faults = g.K.Sink.faults l.out };
+    })
