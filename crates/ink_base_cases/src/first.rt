@@ -2,6 +2,7 @@
 
 use ink_base::{Text, Token, TokenKind};
 use ink_first::first_form;
+use ink_sheet::Sheet;
 use std::alloc::{AllocError, Global};
 
 /// A source that is made of its tokens.
@@ -12,20 +13,21 @@ struct Module {
 }
 
 /// Each module, whose lines are its tokens and end with one that tells what it is, and the texts that it prints.
-pub fn told(alloc: Global, lines: &str) -> Result<String, AllocError> {
-    let mut told = String::from_str(alloc, "MODULES OF THE FIRST FORM\n")?;
+pub fn tell(alloc: Global, sheet: &mut Sheet, lines: &str) -> Result<(), AllocError> {
+    sheet.text("MODULES OF THE FIRST FORM\n");
     let mut module = no_module(alloc);
     for line in lines.lines() {
         match line.strip_prefix("= ") {
             None => add_line(&mut module, line)?,
             Some(label) => {
-                let answer = texts(alloc, &module)?;
-                told.push_str(&format!(in alloc; "{label}: {answer}\n")?)?;
+                sheet.text(label);
+                texts(alloc, sheet, &module)?;
                 module = no_module(alloc);
             }
         }
     }
-    Ok(told)
+    sheet.text("\n");
+    Ok(())
 }
 
 fn no_module(alloc: Global) -> Module {
@@ -77,14 +79,22 @@ fn kind_of(name: &str) -> Option<TokenKind> {
 }
 
 /// The texts that the module prints, each between bars.
-fn texts(alloc: Global, module: &Module) -> Result<String, AllocError> {
-    let Some(texts) = first_form(alloc, &module.source, &module.tokens)? else {
-        return String::from_str(alloc, "of another form");
-    };
-    let mut told = format!(in alloc; "{} texts", texts.len())?;
-    for text in &texts {
-        let text = String::from_utf8_lossy(alloc, text.bytes())?;
-        told.push_str(&format!(in alloc; " |{text}|")?)?;
+fn texts(alloc: Global, sheet: &mut Sheet, module: &Module) -> Result<(), AllocError> {
+    match first_form(alloc, &module.source, &module.tokens)? {
+        None => sheet.text(": of another form\n"),
+        Some(texts) => told_texts(alloc, sheet, &texts),
     }
-    Ok(told)
+    Ok(())
+}
+
+fn told_texts(alloc: Global, sheet: &mut Sheet, texts: &[Text]) {
+    sheet.text(": ");
+    sheet.plain(&texts.len());
+    sheet.text(" texts");
+    for text in texts {
+        sheet.text(" |");
+        sheet.made(String::from_utf8_lossy(alloc, text.bytes()));
+        sheet.text("|");
+    }
+    sheet.text("\n");
 }

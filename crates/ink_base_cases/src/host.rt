@@ -2,31 +2,30 @@
 
 use crate::memory::{read, send, write};
 use ink_devices::{HostFiles, HostSink};
-use std::alloc::{AllocError, Global};
+use ink_sheet::Sheet;
+use std::alloc::AllocError;
 use std::io;
 use std::io::{ErrorKind, Write};
 use std::rt::Files as FileSystem;
 
 /// What real files answer, and a stream that fails.
-pub fn told<R: FileSystem + AllocGlobal>(rt: &R, alloc: Global) -> Result<String, AllocError> {
-    let mut told = String::from_str(alloc, "THE SYSTEM\n")?;
-    files(rt, alloc, &mut told)?;
-    stream(alloc, &mut told)?;
-    Ok(told)
+pub fn tell<R: FileSystem + AllocGlobal>(rt: &R, sheet: &mut Sheet) -> Result<(), AllocError> {
+    sheet.text("THE SYSTEM\n");
+    files(rt, sheet)?;
+    stream(sheet);
+    sheet.text("\n");
+    Ok(())
 }
 
-fn files<R: FileSystem + AllocGlobal>(
-    rt: &R,
-    alloc: Global,
-    told: &mut String,
-) -> Result<(), AllocError> {
+fn files<R: FileSystem + AllocGlobal>(rt: &R, sheet: &mut Sheet) -> Result<(), AllocError> {
+    let alloc = rt.alloc();
     let mut files = HostFiles::new(rt);
-    write(alloc, told, &mut files, b"written.txt", b"hello")?;
-    read(alloc, told, &mut files, b"written.txt", 100)?;
-    read(alloc, told, &mut files, b"written.txt", 4)?;
-    read(alloc, told, &mut files, b"stored.txt", 9)?;
-    read(alloc, told, &mut files, b"absent.txt", 9)?;
-    read(alloc, told, &mut files, b"\xFF", 9)
+    write(alloc, sheet, &mut files, b"written.txt", b"hello")?;
+    read(alloc, sheet, &mut files, b"written.txt", 100)?;
+    read(alloc, sheet, &mut files, b"written.txt", 4)?;
+    read(alloc, sheet, &mut files, b"stored.txt", 9)?;
+    read(alloc, sheet, &mut files, b"absent.txt", 9)?;
+    read(alloc, sheet, &mut files, b"\xFF", 9)
 }
 
 /// A writer that a signal interrupts first, and that takes two bytes, then none, and then is closed.
@@ -51,9 +50,9 @@ impl Write for Fussy {
     }
 }
 
-fn stream(alloc: Global, told: &mut String) -> Result<(), AllocError> {
+fn stream(sheet: &mut Sheet) {
     let mut sink = HostSink::new(Fussy { calls: 0 });
-    send(alloc, told, &mut sink, "abc")?;
-    send(alloc, told, &mut sink, "c")?;
-    send(alloc, told, &mut sink, "c")
+    send(sheet, &mut sink, "abc");
+    send(sheet, &mut sink, "c");
+    send(sheet, &mut sink, "c");
 }

@@ -1,42 +1,60 @@
 //! The limits with their options, their numbers and the texts of their panics.
 
 use ink_base::{BadLimit, Limit, Limits};
-use std::alloc::{AllocError, Global};
+use ink_sheet::Sheet;
 
 /// Each limit, the numbers at the ends of its range, and the first number that is out of range.
-pub fn told(alloc: Global) -> Result<String, AllocError> {
-    let mut told = String::from_str(alloc, "LIMITS\n")?;
+pub fn tell(sheet: &mut Sheet) {
+    sheet.text("LIMITS\n");
     for limit in Limit::ALL {
-        let option = limit.option();
-        let number = Limits::defaults().get(limit);
-        let panic = limit.panic_text().unwrap_or("no panic");
-        told.push_str(&format!(in alloc; "{} {option} {number}, {panic}\n", limit.index())?)?;
-        told.push_str(&range(alloc, limit)?)?;
+        named(sheet, limit);
+        range(sheet, limit);
     }
-    told.push_str(&first_out(alloc)?)?;
-    Ok(told)
+    first_out(sheet);
+    sheet.text("\n");
+}
+
+/// The limit's index, its option, its usual number and the text of its panic.
+fn named(sheet: &mut Sheet, limit: Limit) {
+    sheet.plain(&limit.index());
+    sheet.text(" ");
+    sheet.text(limit.option());
+    sheet.text(" ");
+    sheet.plain(&Limits::defaults().get(limit));
+    sheet.text(", ");
+    sheet.text(limit.panic_text().unwrap_or("no panic"));
+    sheet.text("\n");
 }
 
 /// Which numbers the limit takes, of those at the ends of its range.
-fn range(alloc: Global, limit: Limit) -> Result<String, AllocError> {
+fn range(sheet: &mut Sheet, limit: Limit) {
     let greatest = limit.greatest();
-    let mut told = String::new(alloc);
     for number in [0, 1, greatest, greatest.wrapping_add(1)] {
-        let answer = match Limits::defaults().with(limit, number) {
-            Ok(limits) => limits.get(limit),
-            Err(BadLimit(_)) => 0,
-        };
-        told.push_str(&format!(in alloc; " {number}: {answer}")?)?;
+        sheet.text(" ");
+        sheet.plain(&number);
+        sheet.text(": ");
+        sheet.plain(&taken(limit, number));
     }
-    told.push_str("\n")?;
-    Ok(told)
+    sheet.text("\n");
+}
+
+/// The number that the limit has once it was given this one, and 0 where it doesn't take it.
+fn taken(limit: Limit, number: u64) -> u64 {
+    match Limits::defaults().with(limit, number) {
+        Ok(limits) => limits.get(limit),
+        Err(BadLimit(_)) => 0,
+    }
 }
 
 /// The first limit whose number is out of its range, where those of the texts and of the workers are.
-fn first_out(alloc: Global) -> Result<String, AllocError> {
+fn first_out(sheet: &mut Sheet) {
     let numbers = [1, 1, 1, 1, 1, 1, 0, 1, 1, 1, 1, 1, 1, 65];
     match Limits::new(numbers) {
-        Ok(_) => String::from_str(alloc, "none is out\n"),
-        Err(BadLimit(limit)) => format!(in alloc; "first out: {}\n", limit.option()),
+        Ok(_) => sheet.text("none is out\n"),
+        Err(BadLimit(limit)) => {
+            sheet.text("first out: ");
+            sheet.text(limit.option());
+            sheet.text("\n");
+        }
     }
 }

@@ -17,33 +17,36 @@ mod values;
 mod words;
 
 use ink_devices::{HostSink, write_whole};
+use ink_sheet::Sheet;
+use std::alloc::{AllocError, Global};
 use std::{fs, io};
 
 fn main(rt: HostRuntime) -> io::Result<()> {
-    let alloc = rt.alloc();
-    println!(rt; "{}", refusals::told(alloc)?)?;
-    println!(rt; "{}", limits::told(alloc)?)?;
-    println!(rt; "{}", lists::told(alloc)?)?;
-    println!(rt; "{}", values::told(alloc)?)?;
-    println!(rt; "{}", memory::told(alloc)?)?;
-    println!(rt; "{}", host::told(&rt, alloc)?)?;
-    println!(rt; "{}", places::told(alloc)?)?;
-    println!(rt;
-        "{}",
-        texts::told(alloc, &fs::read_to_string(&rt, "utf8.txt")?)?
-    )?;
-    println!(rt;
-        "{}",
-        methods::told(alloc, &fs::read_to_string(&rt, "methods.txt")?)?
-    )?;
-    println!(rt;
-        "{}",
-        words::told(alloc, &fs::read_to_string(&rt, "words.txt")?)?
-    )?;
-    println!(rt;
-        "{}",
-        first::told(alloc, &fs::read_to_string(&rt, "first.txt")?)?
-    )?;
+    let mut sheet = Sheet::new(rt.alloc());
+    tell_calls(rt.alloc(), &mut sheet)?;
+    host::tell(&rt, &mut sheet)?;
+    places::tell(rt.alloc(), &mut sheet)?;
+    tell_files(&rt, &mut sheet)?;
+    print!(rt; "{}", sheet.whole()?)?;
     let _ = write_whole(&mut HostSink::new(rt.stdout()), b"a stream of the system\n");
+    Ok(())
+}
+
+/// Tells of the calls whose cases stand in the program.
+fn tell_calls(alloc: Global, sheet: &mut Sheet) -> Result<(), AllocError> {
+    refusals::tell(alloc, sheet)?;
+    limits::tell(sheet);
+    lists::tell(alloc, sheet)?;
+    values::tell(alloc, sheet)?;
+    memory::tell(alloc, sheet)
+}
+
+/// Tells of the lines of each file of cases.
+fn tell_files(rt: &HostRuntime, sheet: &mut Sheet) -> io::Result<()> {
+    let alloc = rt.alloc();
+    texts::tell(alloc, sheet, &fs::read_to_string(rt, "utf8.txt")?)?;
+    methods::tell(sheet, &fs::read_to_string(rt, "methods.txt")?);
+    words::tell(alloc, sheet, &fs::read_to_string(rt, "words.txt")?)?;
+    first::tell(alloc, sheet, &fs::read_to_string(rt, "first.txt")?)?;
     Ok(())
 }

@@ -2,41 +2,52 @@
 
 use ink_base::{Kind, Mode, Slot};
 use ink_prims::{Row, number_of, row_at};
-use std::alloc::{AllocError, Global};
+use ink_sheet::Sheet;
 
 /// Each row by its number, and the number of the method of each line, a type and a name.
-pub fn told(alloc: Global, lines: &str) -> Result<String, AllocError> {
-    let mut told = String::from_str(alloc, "BUILT-IN METHODS\n")?;
+pub fn tell(sheet: &mut Sheet, lines: &str) {
+    sheet.text("BUILT-IN METHODS\n");
     for number in 0..48 {
-        told.push_str(&format!(in alloc; "{number} {}\n", row(alloc, row_at(number))?)?)?;
+        sheet.plain(&number);
+        sheet.text(" ");
+        row(sheet, row_at(number));
     }
     for line in lines.lines() {
-        let (kind, name) = line.split_once(' ').unwrap_or((line, ""));
-        let number = kind_of(kind).and_then(|kind| number_of(name.as_bytes(), kind));
-        told.push_str(&format!(in alloc; "{line}: {number:?}\n")?)?;
+        sheet.text(line);
+        sheet.text(": ");
+        sheet.shown(&number_in(line));
+        sheet.text("\n");
     }
-    Ok(told)
+    sheet.text("\n");
+}
+
+/// The number of the method of a line.
+fn number_in(line: &str) -> Option<u32> {
+    let (kind, name) = line.split_once(' ')?;
+    number_of(name.as_bytes(), kind_of(kind)?)
 }
 
 /// A row: its receiver, mode, name, operands and result.
-fn row(alloc: Global, row: Row) -> Result<String, AllocError> {
-    let receiver = kind_name(row.receiver);
-    let mode = mode_name(row.mode);
-    let operands = operands(alloc, row.operands)?;
-    let result = slot_name(row.result);
-    let fresh = if row.fresh { " fresh" } else { "" };
-    let borrows = if row.borrows { " borrows" } else { "" };
-    let name = row.name;
-    format!(in alloc; "{receiver} {mode} {name} ({operands}) {result}{fresh}{borrows}")
+fn row(sheet: &mut Sheet, row: Row) {
+    sheet.text(kind_name(row.receiver));
+    sheet.text(mode_name(row.mode));
+    sheet.text(row.name);
+    sheet.text(" (");
+    operands(sheet, row.operands);
+    sheet.text(") ");
+    sheet.text(slot_name(row.result));
+    sheet.text(if row.fresh { " fresh" } else { "" });
+    sheet.text(if row.borrows { " borrows\n" } else { "\n" });
 }
 
-fn operands(alloc: Global, operands: [Option<Slot>; 2]) -> Result<String, AllocError> {
-    match operands {
-        [Some(first), Some(second)] => {
-            format!(in alloc; "{} {}", slot_name(first), slot_name(second))
-        }
-        [Some(operand), None] => String::from_str(alloc, slot_name(operand)),
-        _ => Ok(String::new(alloc)),
+fn operands(sheet: &mut Sheet, operands: [Option<Slot>; 2]) {
+    let [first, second] = operands;
+    if let Some(operand) = first {
+        sheet.text(slot_name(operand));
+    }
+    if let Some(operand) = second {
+        sheet.text(" ");
+        sheet.text(slot_name(operand));
     }
 }
 
@@ -67,12 +78,13 @@ fn kind_name(kind: Kind) -> &'static str {
     }
 }
 
+/// How a method takes its receiver, between blanks.
 fn mode_name(mode: Mode) -> &'static str {
     match mode {
-        Mode::Read => "fn",
-        Mode::Mutate => "fn mut",
-        Mode::Move => "fn move",
-        Mode::Static => "fn static",
+        Mode::Read => " fn ",
+        Mode::Mutate => " fn mut ",
+        Mode::Move => " fn move ",
+        Mode::Static => " fn static ",
     }
 }
 

@@ -1,32 +1,43 @@
 //! The line and the column of each byte of a source, and numbers as decimal digits.
 
+use ink_base::Place;
+use ink_sheet::Sheet;
 use ink_text::{decimal, place_of};
 use std::alloc::{AllocError, Global};
 
 /// The places of three sources, and some numbers.
-pub fn told(alloc: Global) -> Result<String, AllocError> {
-    let mut told = String::from_str(alloc, "PLACES\n")?;
+pub fn tell(alloc: Global, sheet: &mut Sheet) -> Result<(), AllocError> {
+    sheet.text("PLACES\n");
     for source in ["ab\ncd\r\n\ne", "", "\u{e9}a"] {
-        told.push_str(&format!(in alloc; "of {source:?}\n")?)?;
-        told.push_str(&places(alloc, source.as_bytes())?)?;
+        sheet.text("of ");
+        sheet.shown(&source);
+        sheet.text("\n");
+        places(sheet, source.as_bytes());
     }
     for number in [0, -1, 10, -1203, i64::MIN, i64::MAX] {
         let text = decimal(alloc, number)?;
-        told.push_str(&String::from_utf8_lossy(alloc, text.bytes())?)?;
-        told.push_str("\n")?;
+        sheet.made(String::from_utf8_lossy(alloc, text.bytes()));
+        sheet.text("\n");
     }
-    Ok(told)
+    sheet.text("\n");
+    Ok(())
 }
 
 /// The place of each byte, and of the end.
-fn places(alloc: Global, source: &[u8]) -> Result<String, AllocError> {
-    let mut told = String::new(alloc);
+fn places(sheet: &mut Sheet, source: &[u8]) {
     for byte in 0..100u32 {
         if source.len() < byte as usize {
-            return Ok(told);
+            return;
         }
-        let place = place_of(source, byte);
-        told.push_str(&format!(in alloc; "{byte} {}:{}\n", place.line, place.column)?)?;
+        place(sheet, byte, place_of(source, byte));
     }
-    Ok(told)
+}
+
+fn place(sheet: &mut Sheet, byte: u32, place: Place) {
+    sheet.plain(&byte);
+    sheet.text(" ");
+    sheet.plain(&place.line);
+    sheet.text(":");
+    sheet.plain(&place.column);
+    sheet.text("\n");
 }

@@ -1,9 +1,10 @@
 //! The rules with their codes, and refusals as they are told.
 
 use ink_base::{Place, Refusal, Rule, Text};
+use ink_sheet::Sheet;
 use std::alloc::{AllocError, Global};
 
-const RULES: [Rule; 34] = [
+static RULES: [Rule; 34] = [
     Rule::NotUtf8,
     Rule::BadToken,
     Rule::IntTooWide,
@@ -41,34 +42,38 @@ const RULES: [Rule; 34] = [
 ];
 
 /// The rules, and two refusals, without and with a detail.
-pub fn told(alloc: Global) -> Result<String, AllocError> {
-    let mut told = String::from_str(alloc, "RULES AND REFUSALS\n")?;
+pub fn tell(alloc: Global, sheet: &mut Sheet) -> Result<(), AllocError> {
+    sheet.text("RULES AND REFUSALS\n");
     for rule in RULES {
-        told.push_str(&format!(in alloc; "{rule}\n")?)?;
+        sheet.plain(&rule);
+        sheet.text("\n");
     }
+    refusal(alloc, sheet, Rule::MovedUse, None)?;
+    let detail = Text::of(alloc, b"Some(_)")?;
+    refusal(alloc, sheet, Rule::MissingArm, Some(detail))?;
+    sheet.text("\n");
+    Ok(())
+}
+
+/// Tells a refusal of that rule.
+fn refusal(
+    alloc: Global,
+    sheet: &mut Sheet,
+    rule: Rule,
+    detail: Option<Text>,
+) -> Result<(), AllocError> {
     let place = Place {
         line: 11,
         column: 21,
         byte: 200,
     };
-    tell(alloc, &mut told, Rule::MovedUse, place, None)?;
-    let detail = Text::of(alloc, b"Some(_)")?;
-    tell(alloc, &mut told, Rule::MissingArm, place, Some(detail))?;
-    Ok(told)
-}
-
-fn tell(
-    alloc: Global,
-    told: &mut String,
-    rule: Rule,
-    place: Place,
-    detail: Option<Text>,
-) -> Result<(), AllocError> {
     let refusal = Refusal {
         rule,
         place,
         detail,
     };
-    told.push_str(&String::from_utf8_lossy(alloc, refusal.text(alloc)?.bytes())?)?;
-    told.push_str("\n")
+    let told = refusal.text(alloc)?;
+    sheet.made(String::from_utf8_lossy(alloc, told.bytes()));
+    sheet.text("\n");
+    Ok(())
 }

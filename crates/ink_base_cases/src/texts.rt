@@ -1,19 +1,28 @@
 //! Bytes that are UTF-8, and bytes that stop being so.
 
+use ink_sheet::Sheet;
 use ink_text::{NotUtf8, decode};
 use std::alloc::{AllocError, Global};
 
 /// Each line of bytes, written in hexadecimal, with what is found of them.
-pub fn told(alloc: Global, lines: &str) -> Result<String, AllocError> {
-    let mut told = String::from_str(alloc, "UTF-8\n")?;
+pub fn tell(alloc: Global, sheet: &mut Sheet, lines: &str) -> Result<(), AllocError> {
+    sheet.text("UTF-8\n");
     for line in lines.lines() {
-        let answer = match decode(&bytes(alloc, line)?) {
-            Ok(()) => String::from_str(alloc, "it is")?,
-            Err(NotUtf8(byte)) => format!(in alloc; "stops at {byte}")?,
-        };
-        told.push_str(&format!(in alloc; "{line}: {answer}\n")?)?;
+        sheet.text(line);
+        let bytes = bytes(alloc, line)?;
+        match decode(&bytes) {
+            Ok(()) => sheet.text(": it is\n"),
+            Err(NotUtf8(byte)) => stops(sheet, byte),
+        }
     }
-    Ok(told)
+    sheet.text("\n");
+    Ok(())
+}
+
+fn stops(sheet: &mut Sheet, byte: u64) {
+    sheet.text(": stops at ");
+    sheet.plain(&byte);
+    sheet.text("\n");
 }
 
 /// The bytes that the words of a line are in hexadecimal.

@@ -1,21 +1,29 @@
 //! Command lines, and the commands that they are.
 
 use ink_base::{Limit, Limits, Text};
+use ink_sheet::Sheet;
 use ink_words::{Order, read_words};
 use std::alloc::{AllocError, Global};
 
 /// Each line of words with its command, or with the first word that is wrong.
-pub fn told(alloc: Global, lines: &str) -> Result<String, AllocError> {
-    let mut told = String::from_str(alloc, "COMMAND LINES\n")?;
+pub fn tell(alloc: Global, sheet: &mut Sheet, lines: &str) -> Result<(), AllocError> {
+    sheet.text("COMMAND LINES\n");
     for line in lines.lines() {
+        sheet.text(line);
         let words = words(alloc, line)?;
-        let answer = match read_words(&words) {
-            Ok(order) => order_text(alloc, order)?,
-            Err(number) => format!(in alloc; "word {number} is wrong")?,
-        };
-        told.push_str(&format!(in alloc; "{line}: {answer}\n")?)?;
+        match read_words(&words) {
+            Ok(order) => told_order(alloc, sheet, order),
+            Err(number) => wrong(sheet, number),
+        }
     }
-    Ok(told)
+    sheet.text("\n");
+    Ok(())
+}
+
+fn wrong(sheet: &mut Sheet, number: u64) {
+    sheet.text(": word ");
+    sheet.plain(&number);
+    sheet.text(" is wrong\n");
 }
 
 /// The words of a line. `''` stands for the empty word, and `FF` for the byte of that number.
@@ -32,23 +40,22 @@ fn words(alloc: Global, line: &str) -> Result<Vec<Text>, AllocError> {
     Ok(words)
 }
 
-fn order_text(alloc: Global, order: Order<'_>) -> Result<String, AllocError> {
+fn told_order(alloc: Global, sheet: &mut Sheet, order: Order<'_>) {
     match order {
-        Order::Run { file, limits } => target(alloc, "runs", file, &limits),
-        Order::Print { file, limits } => target(alloc, "prints", file, &limits),
+        Order::Run { file, limits } => target(alloc, sheet, ": runs ", file, &limits),
+        Order::Print { file, limits } => target(alloc, sheet, ": prints ", file, &limits),
     }
 }
 
 /// What is done to which file, and within which limits.
-fn target(
-    alloc: Global,
-    deed: &'static str,
-    file: &Text,
-    limits: &Limits,
-) -> Result<String, AllocError> {
-    let file = String::from_utf8_lossy(alloc, file.bytes())?;
-    let source = limits.get(Limit::Source);
-    let height = limits.get(Limit::Height);
-    let workers = limits.get(Limit::Workers);
-    format!(in alloc; "{deed} {file}, {source} {height} {workers}")
+fn target(alloc: Global, sheet: &mut Sheet, deed: &str, file: &Text, limits: &Limits) {
+    sheet.text(deed);
+    sheet.made(String::from_utf8_lossy(alloc, file.bytes()));
+    sheet.text(", ");
+    sheet.plain(&limits.get(Limit::Source));
+    sheet.text(" ");
+    sheet.plain(&limits.get(Limit::Height));
+    sheet.text(" ");
+    sheet.plain(&limits.get(Limit::Workers));
+    sheet.text("\n");
 }
