@@ -1,0 +1,6 @@
+pub mod Counts
+pub mod Instructions
+pub mod Kept
+pub mod Right
+pub mod Rows
+pub mod Steps
