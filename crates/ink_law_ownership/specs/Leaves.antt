@@ -8,6 +8,7 @@ use Rattle.ink_base.specs.Objects.{Objects}
 use Rattle.ink_code.specs.Machine.{Stepped, Went, Wants, Panics, Spent}
 use Rattle.ink_code.specs.Owned.{times_there, AreOwnedOnce}
 use Rattle.ink_code.specs.Process.{Process}
+use Rattle.ink_code.specs.Replies.{Reply, Taken, Got}
 use Rattle.ink_code.specs.Trees.{Parcel}
 
 -- the objects that an action carries
@@ -54,6 +55,20 @@ Gives (Wants (action.GetFuture future)) p q = q ≡ p
 Gives (Wants (action.Panic text)) p q = q ≡ p
 Gives (Panics text) p q = q ≡ p
 Gives (Spent steps) p q = q ≡ p
+
+-- the objects that a reply brings
+abbrev pub brought : Reply → Objects
+brought (Taken method parcel) = parcel.objects
+brought (Got parcel) = parcel.objects
+brought other = empty
+
+-- what a reply leaves
+pub record ReplyLeaves (reply : Reply) (p q : Process) : Type 0 where
+  pub number : q.number ≡ p.number
+  pub kind : q.kind ≡ p.kind
+  pub ran : q.ran ≡ 0
+  pub made : q.made ≡ p.made
+  pub names : (id : ObjectId) → times_there id q.objects ≤ times_there id p.objects + times_there id (brought reply)
 
 -- what a step leaves
 pub record StepLeaves (p : Process) (stepped : Stepped) (q : Process) : Type 0 where

@@ -6,4 +6,4 @@
 
 mod laws;
 
-pub use laws::step_leaves;
+pub use laws::{reply_leaves, step_leaves};
