@@ -20,11 +20,11 @@ trees_push : (ns : List Node) (x : Node) → trees (ns ++ x ∷ []) ≡ trees ns
 unfolding trees
 trees_push ns x = onto_push [] ns x
 
-onto_length : (ts : List Tree) (ns : List Node) → length (onto ts ns) ≡ length ts + length ns
+pub onto_length : (ts : List Tree) (ns : List Node) → length (onto ts ns) ≡ length ts + length ns
 onto_length ts [] = omega arith
 onto_length ts (n ∷ ns) = omega (arith, onto_length (ts ++ grow ts n ∷ []) ns, length-append ts (grow ts n ∷ []))
 
-trees_length : (ns : List Node) → length (trees ns) ≡ length ns
+pub trees_length : (ns : List Node) → length (trees ns) ≡ length ns
 unfolding trees
 trees_length ns = omega (arith, onto_length [] ns)
 
@@ -40,7 +40,7 @@ found_none ts = refl
 abbrev pub Known : ℕ → Value → Type 0
 Known n v = n ≤ v.node → v.node ≡ no_node
 
-same_at : (ts : List Tree) (t : Tree) (k : ℕ) → length ts < no_node → (length ts ≤ k → k ≡ no_node) → at (ts ++ t ∷ []) k ≡ at ts k
+pub same_at : (ts : List Tree) (t : Tree) (k : ℕ) → length ts < no_node → (length ts ≤ k → k ≡ no_node) → at (ts ++ t ∷ []) k ≡ at ts k
 same_at ts t k few h = by_cases (nat_lt k (length ts))
     (λ e. let l : k < length ts = ltb-true k (length ts) e in get_or_append_left ts (t ∷ []) Missing k l)
     (λ e. let m : k ≡ no_node = h (ltb-false k (length ts) e) in get_or_past (ts ++ t ∷ []) k Missing (omega (arith, length-append ts (t ∷ []), m)) ∙ sym (get_or_past ts k Missing (omega (arith, m))))

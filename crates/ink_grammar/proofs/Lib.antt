@@ -4,6 +4,7 @@ pub mod Steps
 pub mod Samples
 pub mod Runs
 pub mod Grown
+pub mod Postorder
 pub mod Measure
 pub mod Ends
 pub mod Meaning

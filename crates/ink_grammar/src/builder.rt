@@ -1,6 +1,7 @@
 //! What was read so far, while a module is parsed: its nodes, and a stack of values that no node holds yet.
 
 ghost use Rattle.std.specs.Prelude.{◌≡◌, ◌≤◌, ◌∷◌, [], All, false, length, OnOk};
+ghost use Rattle.ink_grammar.specs.Built.{IsPostorder};
 ghost use Rattle.ink_grammar.specs.Tree.{no_node};
 
 use crate::symbol::{Action, Wanted};
@@ -28,7 +29,7 @@ pub struct Builder {
     nodes: Vec<Node>,
     values: Vec<Value>,
     ghost known: { All (λ v. length nodes.items ≤ v.node → v.node ≡ no_node) values.items },
-    ghost few: { length nodes.items ≤ no_node },
+    ghost order: { IsPostorder nodes.items },
 }
 
 impl Builder {
@@ -76,6 +77,7 @@ impl Builder {
 
     /// Keeps a new node as the last value.
     fn push(&mut self, node: Node, start: u32, is_place: bool) -> Result<(), AllocError>
+        requires { built.AreKnown (length self.now.nodes.items) node }
         ensures { OnOk result (view.found self.new ≡ record { tree = built.grow (view.trees_in self.old) node; start = start; is_place = is_place } ∷ view.found self.old) }
     {
         let number = self.nodes.len();

@@ -1,6 +1,7 @@
 //! The tree of a module, as a vector of nodes in which each node comes after its children.
 
-ghost use Rattle.std.specs.Prelude.{◌≡◌};
+ghost use Rattle.std.specs.Prelude.{◌≡◌, slice_get};
+ghost use Rattle.ink_grammar.specs.Built.{IsPostorder};
 ghost use Rattle.ink_grammar.specs.Tree as spec;
 
 use crate::token::{Shape, Terminal};
@@ -144,11 +145,15 @@ pub enum Node {
 pub struct Module {
     nodes: Vec<Node>,
     root: u32,
+    ghost order: { IsPostorder nodes.items },
 }
 
 impl Module {
+    ghost use Rattle.ink_grammar.specs.Views as view;
+
     /// The module of these nodes, held by that of this number.
-    pub fn new(nodes: Vec<Node>, root: u32) -> Self
+    pub(crate) fn new(nodes: Vec<Node>, root: u32) -> Self
+        requires { IsPostorder nodes.items }
         ensures nodes { result.nodes.items ≡ nodes.items }
         ensures root { result.root ≡ root }
     {
@@ -157,9 +162,19 @@ impl Module {
 
     /// The nodes, each after its children. A parenthesis that makes no node leaves a leaf that no node names.
     pub fn nodes(&self) -> &[Node]
-        ensures { result.now ≡ self.now.nodes.items }
+        ensures nodes { result.now ≡ self.now.nodes.items }
+        ensures order { IsPostorder result.now }
     {
         &self.nodes
+    }
+
+    /// The node of this number, whose children are of smaller numbers. There is none where a child is left out.
+    #[tactic(auto, using(crate::proofs::Postorder::node_tree, crate::proofs::Postorder::node_before))]
+    pub fn node(&self, number: u32) -> Option<Node>
+        ensures tree { view.tree_at self.now number ≡ view.tree_of self.now result }
+        ensures before { view.AreBefore self.now number result }
+    {
+        node_at(&self.nodes, number)
     }
 
     /// The number of the node that holds all.
@@ -167,6 +182,15 @@ impl Module {
         ensures { result ≡ self.now.root }
     {
         self.root
+    }
+}
+
+fn node_at(nodes: &[Node], number: u32) -> Option<Node>
+    ensures { result ≡ slice_get nodes.now number }
+{
+    match nodes.get(number as usize) {
+        Some(node) => Some(*node),
+        None => None,
     }
 }
 

@@ -12,7 +12,7 @@ pub returns-in-Some-clause-found : goal.returns-in-Some-clause-found
 returns-in-Some-clause-found c = popped_rest c.args.self.now.nodes.items c.args.self.now.values.items c.pop.new.self.items c.in-Some.value c.in-Some.ensures.items
 
 pub returns-in-None-clause-tree : goal.returns-in-None-clause-tree
-returns-in-None-clause-tree c = unpopped_first c.args.self.now.nodes.items c.args.self.now.values.items c.pop.new.self.items c.in-None.ensures.items (omega (arith, c.in-None.ensures.cases.0, c.args.self.now.values.ok.0)) c.args.self.now.few
+returns-in-None-clause-tree c = unpopped_first c.args.self.now.nodes.items c.args.self.now.values.items c.pop.new.self.items c.in-None.ensures.items (omega (arith, c.in-None.ensures.cases.0, c.args.self.now.values.ok.0)) c.args.self.now.order.few
 
 pub returns-in-None-clause-start : goal.returns-in-None-clause-start
 returns-in-None-clause-start c = unpopped_start c.args.self.now.nodes.items c.args.self.now.values.items c.pop.new.self.items c.in-None.ensures.items (omega (arith, c.in-None.ensures.cases.0, c.args.self.now.values.ok.0))
