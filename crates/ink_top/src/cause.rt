@@ -13,17 +13,18 @@ pub enum Cause {
     Quiet,
     /// The whole print was written.
     Written,
-    /// The source breaks a rule.
+    /// The source breaks a rule. Nothing was done.
     Refused(Refusal),
-    /// No command has this word at its place, counted from 1.
+    /// No command has this word at its place, counted from 1. Nothing was done.
     Usage(u64),
-    /// The file could not be read.
+    /// The file could not be read. Nothing was done.
     ReadFault,
-    /// The output, or what is told of the cause, could not be written.
+    /// The output could not be written: it got a part, cut within the last print or within the print of the source. Or what
+    /// is told of a cause could not be written, and nothing was done.
     WriteFault,
-    /// There was no memory.
+    /// There was no memory. Of a print nothing was written; a run wrote all that its journal says.
     OutOfMemory,
-    /// The module is more than what runs so far. It goes once all modules run.
+    /// The module is more than what runs so far, and nothing was done. It goes once all modules run.
     Unbuilt,
 }
 
@@ -45,6 +46,8 @@ impl Cause {
     }
 
     /// What is told of the cause: nothing, or one line. `file` is the name of the file that was to be read.
+    ///
+    /// It takes memory. Where a cause must not be lost for want of it, its line is written as a constant.
     pub fn text(&self, alloc: Global, file: &[u8]) -> Result<Vec<u8>, AllocError>
         ensures { IfOk result (λ text. text.items ≡ cause_text self.now file.now) }
     {
