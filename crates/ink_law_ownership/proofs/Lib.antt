@@ -1,7 +1,13 @@
 pub mod Counts
 pub mod Instructions
 pub mod Kept
+pub mod Left
+pub mod Numbers
 pub mod Replied
 pub mod Right
 pub mod Rows
+pub mod Shared
 pub mod Steps
+pub mod Trace
+pub mod Turned
+pub mod Worlds

@@ -6,4 +6,4 @@
 
 mod laws;
 
-pub use laws::{reply_leaves, step_leaves};
+pub use laws::{names_stand_apart, reply_leaves, step_leaves, steps_are_counted, turn_keeps_apart};
