@@ -1,4 +1,6 @@
+pub mod Apart
 pub mod Counts
+pub mod CutTree
 pub mod Instructions
 pub mod Kept
 pub mod Left

@@ -1,5 +1,5 @@
 -- How often a name stands in unread messages and in futures, as an action leaves them.
-use Rattle.std.proofs.Common.{◌≡◌, ℕ, ◌+◌, ◌≤◌, Option, Some, None, List, [], ◌∷◌, ◌++◌, length, refl, sym, ap, ◌∙◌, subst, arith}
+use Rattle.std.proofs.Common.{◌≡◌, ℕ, ◌+◌, ◌≤◌, Option, Some, None, List, [], ◌∷◌, length, refl, sym, ap, ◌∙◌, arith}
 use Rattle.std.specs.FinMap.{empty}
 use Rattle.std.specs.List.{sum_by}
 use Rattle.std.proofs.lemmas.List.Sums.{sum_by-cons, sum_by_push}
@@ -9,7 +9,7 @@ use Rattle.ink_base.specs.declared.future.FutureState.TheVariants as future
 use Rattle.ink_base.specs.declared.ident.ObjectId.{ObjectId}
 use Rattle.ink_base.specs.Actions.{Action, SharedState, after_action}
 use Rattle.ink_base.specs.Actions as action
-use Rattle.ink_base.specs.Futures.{Futures, after_make, after_set, after_break, after_get, change_at, value_of}
+use Rattle.ink_base.specs.Futures.{Futures, after_set, after_break, after_get, change_at, value_of}
 use Rattle.ink_base.specs.Messages.{Mail, Mailbox, Message, empty_mailbox, with_message, without_first, first_of, unread_in, take_from_box, send_to_box}
 use Rattle.ink_base.specs.Numbered.{numbered, set_numbered}
 use Rattle.ink_base.specs.Objects.{Objects}

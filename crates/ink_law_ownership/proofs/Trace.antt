@@ -1,5 +1,5 @@
 -- What several steps of a process leave of it, and those up to an action.
-use Rattle.std.proofs.Common.{◌≡◌, ℕ, zero, suc, ◌+◌, ◌<◌, ◌≤◌, Option, Some, None, Result, Ok, Err, List, refl, sym, ap, ◌∙◌, subst, arith, inl, inr, ◌⊎◌}
+use Rattle.std.proofs.Common.{◌≡◌, ℕ, zero, suc, ◌+◌, ◌≤◌, Option, Some, Ok, Err, List, refl, ◌∙◌, subst, arith, inl, inr, ◌⊎◌}
 use Rattle.std.specs.FinMap.{empty}
 use Rattle.std.proofs.lemmas.Option.{none-some, same_Some}
 use Rattle.ink_base.specs.declared.ident.ObjectId.{ObjectId}
@@ -7,14 +7,13 @@ use Rattle.ink_base.specs.Actions.{Action}
 use Rattle.ink_base.specs.Actions as action
 use Rattle.ink_base.specs.Objects.{Objects}
 use Rattle.ink_code.specs.declared.code.Code.{Code}
-use Rattle.ink_code.specs.declared.wrong.Wrong.{Wrong}
-use Rattle.ink_code.specs.Machine.{Stepped, Went, Wants, Panics, Spent, Outcome}
+use Rattle.ink_code.specs.Machine.{Went, Wants, Panics, Spent, Outcome}
 use Rattle.ink_code.specs.Owned.{times_there}
 use Rattle.ink_code.specs.Process.{Process}
 use Rattle.ink_code.specs.Slice.{steps_on, gone_on, next_on, wish_of, ComesTo}
 use Rattle.ink_code.specs.Step.{free_step}
 use Rattle.ink_code.specs.Trees.{Parcel}
-use Rattle.ink_law_ownership.specs.Leaves.{IsNew, KeepsNames, StepLeaves, carried}
+use Rattle.ink_law_ownership.specs.Leaves.{IsNew, KeepsNames, carried}
 use Rattle.ink_law_ownership.proofs.Counts.{none_in_empty}
 use Rattle.ink_law_ownership.proofs.Kept.{idle}
 use Rattle.ink_law_ownership.proofs.Steps.{step-leaves}

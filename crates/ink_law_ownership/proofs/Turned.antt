@@ -1,8 +1,7 @@
 -- A turn keeps apart what stands apart.
-use Rattle.std.proofs.Common.{◌≡◌, ℕ, zero, suc, ◌+◌, ◌-◌, ◌<◌, ◌≤◌, ◌==◌, Bool, true, false, Option, Some, None, List, [], ◌∷◌, ◌++◌, length, refl, sym, ap, ◌∙◌, subst, arith, inl, inr, ◌⊎◌, slice_get}
+use Rattle.std.proofs.Common.{◌≡◌, ℕ, zero, suc, ◌+◌, ◌<◌, ◌≤◌, Bool, true, false, Option, Some, None, List, [], ◌∷◌, ◌++◌, length, refl, sym, ap, ◌∙◌, subst, arith, inl, inr, ◌⊎◌}
 use Rattle.std.specs.Prelude.{IsSomeAnd}
-use Rattle.std.specs.FinMap.{empty, insert}
-use Rattle.std.specs.List.{sum_by}
+use Rattle.std.specs.FinMap.{empty}
 use Rattle.std.proofs.lemmas.List.Sums.{sum_by_push}
 use Rattle.std.proofs.lemmas.Option.{same_Some}
 use Rattle.ink_base.specs.declared.ident.ObjectId.{ObjectId}
@@ -15,12 +14,12 @@ use Rattle.ink_code.specs.Owned.{one_if, times_there}
 use Rattle.ink_code.specs.Process.{Process, state_name}
 use Rattle.ink_code.specs.Runs.{World, begun, with_started, after_made, CodeTurn}
 use Rattle.ink_code.specs.Trees.{Parcel}
-use Rattle.ink_heap.proofs.ObjectsLemmas.{is_same, is_same-one, is_same-itself}
+use Rattle.ink_heap.proofs.ObjectsLemmas.{is_same, is_same-one}
 use Rattle.ink_law_ownership.specs.Leaves.{IsNew, KeepsNames, carried}
 use Rattle.ink_law_ownership.specs.Names.{times_in_heaps, times_in_world, WasMade, StandApart}
 use Rattle.ink_law_ownership.proofs.Counts.{none_in_empty, times_there-put}
 use Rattle.ink_law_ownership.proofs.Left.{LeftBy, left_by}
-use Rattle.ink_law_ownership.proofs.Numbers.{at_place, from_place, sum-set_numbered, length-set_numbered, number_within, set_was, set_is, set_here, push_was, push_is, push_last}
+use Rattle.ink_law_ownership.proofs.Numbers.{sum-set_numbered, length-set_numbered, number_within, set_was, set_is, set_here, push_was, push_is, push_last}
 use Rattle.ink_law_ownership.proofs.Shared.{times_shared, added}
 use Rattle.ink_law_ownership.proofs.Trace.{NamesAt, came}
 

@@ -1,5 +1,5 @@
 -- In each run of a code names stand apart, after the turns of a journal and ahead of them.
-use Rattle.std.proofs.Common.{◌≡◌, ℕ, zero, suc, ◌+◌, ◌-◌, ◌<◌, ◌≤◌, Bool, true, false, Option, Some, None, List, [], ◌∷◌, ◌++◌, length, refl, sym, ap, ◌∙◌, subst, arith, inl, inr, ◌⊎◌, slice_get}
+use Rattle.std.proofs.Common.{◌≡◌, ℕ, zero, suc, ◌+◌, ◌-◌, ◌<◌, ◌≤◌, Bool, true, false, Some, List, [], ◌∷◌, refl, sym, ap, ◌∙◌, arith, inl, inr, ◌⊎◌, slice_get}
 use Rattle.std.specs.FinMap.{empty}
 use Rattle.std.proofs.lemmas.List.Sums.{sum_by-cons}
 use Rattle.std.proofs.lemmas.Option.{none-some, same_Some}
@@ -8,16 +8,16 @@ use Rattle.ink_base.specs.Numbered.{numbered}
 use Rattle.ink_code.specs.declared.code.Code.{Code}
 use Rattle.ink_code.specs.Owned.{one_if, times_there}
 use Rattle.ink_code.specs.Process.{Process, state_name}
-use Rattle.ink_code.specs.Runs.{World, no_parcel, begun, opening_world, CodeReplay, begins, turns, CodeAhead, AreAhead, IsAhead}
+use Rattle.ink_code.specs.Runs.{World, no_parcel, begun, opening_world, CodeReplay, begins, turns, CodeAhead, AreAhead}
 use Rattle.ink_code.specs.Slice.{steps_on}
 use Rattle.ink_heap.proofs.ObjectsLemmas.{is_same, is_same-one}
-use Rattle.ink_law_ownership.specs.Leaves.{IsNew, KeepsNames}
+use Rattle.ink_law_ownership.specs.Leaves.{IsNew}
 use Rattle.ink_law_ownership.specs.Names.{times_in_heaps, times_in_world, WasMade, StandApart}
 use Rattle.ink_law_ownership.proofs.Counts.{none_in_empty, times_there-put}
 use Rattle.ink_law_ownership.proofs.Numbers.{at_place, from_place, place_number, push_was}
 use Rattle.ink_law_ownership.proofs.Shared.{times_shared}
 use Rattle.ink_law_ownership.proofs.Trace.{NamesAt, Traces, trace}
-use Rattle.ink_law_ownership.proofs.Turned.{EachNumbered, IsRested, HasNumber, made_of, was_made, zero_unless, turn_apart, turn_rests}
+use Rattle.ink_law_ownership.proofs.Turned.{EachNumbered, IsRested, made_of, was_made, zero_unless, turn_apart, turn_rests}
 
 -- a run as it begins
 
