@@ -19,7 +19,7 @@ behind : (value : Value) (values : List Value) (x : Value) → Contains values x
 behind value values x h = Contains-append_right (value ∷ []) values x h
 
 -- the first owner is among the values, and so is all that stands behind it
-abbrev IsFirst : List Value → ObjectId → List Value → Type 0
+abbrev pub IsFirst : List Value → ObjectId → List Value → Type 0
 IsFirst values id rest = Contains values (v.Own id) × ((x : Value) → Contains rest x → Contains values x)
 
 later : (value : Value) (values : List Value) (id : ObjectId) (rest : List Value) → IsFirst values id rest → IsFirst (value ∷ values) id rest
@@ -39,7 +39,7 @@ abbrev rest_in : List Value → Option (ObjectId × List Value) → List Value
 rest_in other None = other
 rest_in other (Some found) = found.1
 
-first_is_first : (values : List Value) (id : ObjectId) (rest : List Value) → first_owned values ≡ Some (id, rest) → IsFirst values id rest
+pub first_is_first : (values : List Value) (id : ObjectId) (rest : List Value) → first_owned values ≡ Some (id, rest) → IsFirst values id rest
 first_is_first [] id rest e = cc
 first_is_first (v.Own first ∷ values) id rest e =
     let same : first ≡ id = ap (name_in first) e in
@@ -56,7 +56,7 @@ first_is_first (v.Promise future ∷ values) id rest e = later _ values id rest 
 first_is_first (v.Empty ∷ values) id rest e = later _ values id rest (first_is_first values id rest e)
 
 -- what is in the tree of values that are all in a tree is in that tree
-in_wider : (fields : ObjectId → List Value) (values more : List Value) (id : ObjectId) → ((x : ObjectId) → Contains more (v.Own x) → InTree fields values x) → InTree fields more id → InTree fields values id
+pub in_wider : (fields : ObjectId → List Value) (values more : List Value) (id : ObjectId) → ((x : ObjectId) → Contains more (v.Own x) → InTree fields values x) → InTree fields more id → InTree fields values id
 in_wider fields values more id wider (owned object h) = wider object h
 in_wider fields values more id wider (below above object t h) = below above object (in_wider fields values more above wider t) h
 

@@ -1,8 +1,7 @@
 -- How often a name stands among objects that a step changed.
-use Rattle.std.proofs.Common.{◌≡◌, ℕ, ◌+◌, ◌≤◌, Bool, true, false, cond, Option, Some, None, Result, Ok, Err, refl, sym, ap, ◌∙◌, subst, arith, nat_lt, if◌then◌else◌}
+use Rattle.std.proofs.Common.{◌≡◌, ◌+◌, ◌≤◌, Bool, true, false, cond, Option, Some, None, Result, Ok, Err, refl, sym, ap, ◌∙◌, subst, arith, nat_lt, if◌then◌else◌}
 use Rattle.std.specs.Option.{is_some, option_map}
 use Rattle.std.specs.FinMap.{get, insert, remove, empty, get-empty, get-insert, get-remove}
-use Rattle.std.proofs.lemmas.Option.{none-some}
 use Rattle.ink_base.specs.declared.ident.ObjectId.{ObjectId}
 use Rattle.ink_base.specs.declared.object.Object.{Object}
 use Rattle.ink_base.specs.declared.value.Value.{Value}

@@ -1,9 +1,6 @@
 -- What each instruction leaves of a process.
-use Rattle.std.proofs.Common.{◌≡◌, ℕ, ◌+◌, nat_lt, if◌then◌else◌, Bool, true, false, Option, Some, None, Result, Ok, Err, List, [], ◌∷◌, ◌++◌, refl, arith, slice_get, inl, ap, ◌∙◌}
-use Rattle.std.specs.Prelude.{IfOk}
-use Rattle.std.specs.FinMap.{remove, empty}
+use Rattle.std.proofs.Common.{◌≡◌, ℕ, Option, Some, None, List, [], ◌∷◌, refl, arith, ap}
 use Rattle.std.proofs.lemmas.Result.{IfOk-at_ok}
-use Rattle.ink_base.specs.declared.ident.ObjectId.{ObjectId}
 use Rattle.ink_base.specs.declared.object.Object.{Object}
 use Rattle.ink_base.specs.declared.value.Value.{Value}
 use Rattle.ink_base.specs.declared.value.Value.TheVariants as v
@@ -12,14 +9,11 @@ use Rattle.ink_base.specs.Actions as action
 use Rattle.ink_base.specs.Objects.{Objects, with_field}
 use Rattle.ink_code.specs.declared.code.Code.{Code}
 use Rattle.ink_code.specs.declared.frame.Frame.{Frame}
-use Rattle.ink_code.specs.declared.instr.Instr.{Instr}
-use Rattle.ink_code.specs.declared.instr.Instr.TheVariants as i
-use Rattle.ink_code.specs.declared.wrong.Wrong.{Wrong}
 use Rattle.ink_code.specs.declared.wrong.Wrong.TheVariants as wrong
 use Rattle.ink_code.specs.Calls.{invoke_step, invoke_bound_step, return_step, returns_to, ends}
 use Rattle.ink_code.specs.Drops.{drop_step, drop_maybe_step, drop_if, drop_next, dropped, waits}
 use Rattle.ink_code.specs.Kinds.{array_kind}
-use Rattle.ink_code.specs.Machine.{Stepped, Went, Wants, Panics, Spent, Outcome, unless_text, went, wants, panics, put, with_objects, next_place}
+use Rattle.ink_code.specs.Machine.{Wants, Outcome, unless_text, went, wants, put, next_place}
 use Rattle.ink_code.specs.Makes.{make_step, make_array_step, makes, load_step, load_borrow_step, store_step, tag_step, take_apart_step, gives_up}
 use Rattle.ink_code.specs.Moves.{const_step, move_step, copy_step, copies, borrow_step, exchange_step, my_proc_step, jump_step, jump_if_step, panic_step}
 use Rattle.ink_code.specs.Objects.{lent}
@@ -27,12 +21,7 @@ use Rattle.ink_code.specs.Owned.{times_there}
 use Rattle.ink_code.specs.Prims.{prim_step, tells}
 use Rattle.ink_code.specs.Process.{Process}
 use Rattle.ink_code.specs.Rows.{Computed, Gives, Raises}
-use Rattle.ink_code.specs.Step.{instr_step, top_step, free_step}
-use Rattle.ink_code.specs.Trees.{Parcel, Parted, parted_of}
-use Rattle.ink_code.specs.Wanted.{sends_off, spawn_step, send_step, print_step, future_new_step, future_get_step, promise_set_step}
-use Rattle.ink_parcel.proofs.CutLemmas.{takes_of, cut_owned_once}
-use Rattle.ink_law_ownership.specs.Leaves.{StepLeaves, KeepsNames, going_out, Gives as GivesOut}
-use Rattle.ink_law_ownership.proofs.Counts.{NoMore-same, NoMore-copy, NoMore-borrow, NoMore-changed, NoMore-remove, none_in_empty}
+use Rattle.ink_law_ownership.proofs.Counts.{NoMore-copy, NoMore-borrow, NoMore-changed, NoMore-remove}
 use Rattle.ink_law_ownership.proofs.Kept.{Same, Kept, StepOf, same_itself, same_with, kept_same, kept_made, went_right, stays_right, settles_right, panics_right, idle}
 use Rattle.ink_law_ownership.proofs.Right.{Right, right, wrong, given_right, after_right, when_right}
 use Rattle.ink_law_ownership.proofs.Rows.{row_right}

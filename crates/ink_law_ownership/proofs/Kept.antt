@@ -1,11 +1,10 @@
 -- What a process keeps while a step works on it.
-use Rattle.std.proofs.Common.{◌≡◌, ℕ, ◌+◌, ◌<◌, ◌≤◌, Bool, true, false, List, [], ◌∷◌, refl, sym, ap, ◌∙◌, subst, arith, inl, inr, ◌⊎◌}
-use Rattle.std.specs.FinMap.{insert, empty}
+use Rattle.std.proofs.Common.{◌≡◌, ℕ, ◌+◌, ◌≤◌, Bool, true, false, List, [], ◌∷◌, refl, sym, ap, ◌∙◌, subst, arith, inl, inr, ◌⊎◌}
+use Rattle.std.specs.FinMap.{empty}
 use Rattle.ink_base.specs.declared.ident.ObjectId.{ObjectId}
-use Rattle.ink_base.specs.declared.object.Object.{Object}
 use Rattle.ink_base.specs.declared.value.Value.{Value}
 use Rattle.ink_base.specs.Objects.{Objects}
-use Rattle.ink_code.specs.Machine.{Stepped, Went, Wants, Panics, Spent, Outcome, went, stays, settles, panics}
+use Rattle.ink_code.specs.Machine.{Stepped, Went, Panics, went, stays, settles, panics}
 use Rattle.ink_code.specs.Makes.{with_made}
 use Rattle.ink_code.specs.Owned.{one_if, times_there}
 use Rattle.ink_code.specs.Process.{Process, next_id}

@@ -1,7 +1,15 @@
+pub mod Apart
 pub mod Counts
+pub mod CutTree
 pub mod Instructions
 pub mod Kept
+pub mod Left
+pub mod Numbers
 pub mod Replied
 pub mod Right
 pub mod Rows
+pub mod Shared
 pub mod Steps
+pub mod Trace
+pub mod Turned
+pub mod Worlds

@@ -1,7 +1,7 @@
 -- What each reply leaves of a process.
-use Rattle.std.proofs.Common.{◌≡◌, ℕ, ◌+◌, ◌≤◌, Bool, true, false, cond, Option, Some, None, Result, Ok, Err, List, [], ◌∷◌, refl, sym, ap, ◌∙◌, subst, arith}
+use Rattle.std.proofs.Common.{◌≡◌, ℕ, ◌+◌, ◌≤◌, Bool, true, false, cond, Option, Some, None, Ok, List, [], ◌∷◌, refl, sym, ap, subst, arith}
 use Rattle.std.specs.Option.{is_some}
-use Rattle.std.specs.FinMap.{find, get, insert, empty, entries, get-insert, get-entries}
+use Rattle.std.specs.FinMap.{find, get, entries, get-insert, get-entries}
 use Rattle.std.proofs.lemmas.Result.{IfOk-at_ok}
 use Rattle.ink_base.specs.declared.ident.ObjectId.{ObjectId}
 use Rattle.ink_base.specs.declared.object.Object.{Object}
@@ -13,7 +13,6 @@ use Rattle.ink_base.proofs.IdentLemmas.{id_cmp_total}
 use Rattle.ink_code.specs.declared.code.Code.{Code}
 use Rattle.ink_code.specs.declared.instr.Instr.{Instr}
 use Rattle.ink_code.specs.declared.instr.Instr.TheVariants as i
-use Rattle.ink_code.specs.declared.wrong.Wrong.{Wrong}
 use Rattle.ink_code.specs.declared.wrong.Wrong.TheVariants as wrong
 use Rattle.ink_code.specs.Owned.{one_if, times_there}
 use Rattle.ink_code.specs.Process.{Process, state_id}
@@ -23,7 +22,7 @@ use Rattle.ink_code.specs.Trees.{Parcel, put_each, joined}
 use Rattle.ink_heap.specs.Pairs.{Pairs}
 use Rattle.ink_heap.proofs.ObjectsLemmas.{is_same}
 use Rattle.ink_law_ownership.specs.Leaves.{ReplyLeaves}
-use Rattle.ink_law_ownership.proofs.Counts.{NoMore-copy, none_in_empty}
+use Rattle.ink_law_ownership.proofs.Counts.{NoMore-copy}
 use Rattle.ink_law_ownership.proofs.Right.{Right, right, wrong, given_right, after_right}
 
 -- a name stands among joined objects no more often than in both

@@ -1,24 +1,21 @@
 -- What the rows of the built-in methods leave of a process.
-use Rattle.std.proofs.Common.{◌≡◌, ℕ, ℤ, ◌+◌, ◌-◌, ◌==◌, nat_lt, not, if◌then◌else◌, Bool, true, false, Option, Some, None, Result, Ok, Err, List, [], ◌∷◌, ◌++◌, refl, length, take, slice_get}
-use Rattle.std.specs.FinMap.{remove}
+use Rattle.std.proofs.Common.{ℕ, ℤ, ◌==◌, nat_lt, Bool, true, false, Option, Some, None, List, [], ◌∷◌, refl, slice_get}
 use Rattle.ink_base.specs.declared.ident.ObjectId.{ObjectId}
-use Rattle.ink_base.specs.declared.limits.Limit.TheVariants as limit
 use Rattle.ink_base.specs.declared.object.Object.{Object}
 use Rattle.ink_base.specs.declared.value.Value.{Value}
 use Rattle.ink_base.specs.declared.value.Value.TheVariants as v
 use Rattle.ink_base.specs.Objects.{with_field}
 use Rattle.ink_code.specs.declared.code.Code.{Code}
-use Rattle.ink_code.specs.declared.wrong.Wrong.{Wrong}
 use Rattle.ink_code.specs.declared.wrong.Wrong.TheVariants as wrong
-use Rattle.ink_code.specs.ArrayRows.{size_row, empty_row, push_row, pop_row, get_row, set_row, swap_row, clear_row, array_rows, at_item, found_item, with_item, with_items, item_at}
+use Rattle.ink_code.specs.ArrayRows.{size_row, empty_row, push_row, pop_row, get_row, set_row, swap_row, clear_row, array_rows, at_item, found_item, with_item, with_items}
 use Rattle.ink_code.specs.Kinds.{option_kind, some_tag, none_tag, stdout_kind}
 use Rattle.ink_code.specs.Machine.{with_objects}
 use Rattle.ink_code.specs.Objects.{with_fields, lent}
 use Rattle.ink_code.specs.OptionRows.{some_row, none_row, value_row, as_ref_row, stdout_row, option_rows, lends_value, has_value}
-use Rattle.ink_code.specs.Prims.{row_step, leaves, value_rows}
+use Rattle.ink_code.specs.Prims.{row_step}
 use Rattle.ink_code.specs.Process.{Process}
 use Rattle.ink_code.specs.RowNumbers as rows
-use Rattle.ink_code.specs.Rows.{Computed, Gives, Raises, Computation, RowOutcome, gives, fails, unless_fails, no_operand, receives, gives_made, gives_option, gives_lent, place_in}
+use Rattle.ink_code.specs.Rows.{Computed, Gives, Raises, RowOutcome, gives, fails, unless_fails, no_operand, receives, gives_made, gives_option, gives_lent}
 use Rattle.ink_law_ownership.proofs.Counts.{NoMore-same, NoMore-copy, NoMore-borrow, NoMore-changed, NoMore-remove}
 use Rattle.ink_law_ownership.proofs.Kept.{Same, Kept, same_itself, same_with, kept_same, kept_made}
 use Rattle.ink_law_ownership.proofs.Right.{Right, right, wrong, given_right, after_right, needs_right, when_right, if_else}

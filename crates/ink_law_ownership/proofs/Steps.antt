@@ -1,27 +1,26 @@
 -- What each step leaves of a process: the instructions that want an action, and the step as a whole.
-use Rattle.std.proofs.Common.{◌≡◌, ℕ, ◌+◌, ◌≤◌, Option, Some, None, Result, Ok, Err, List, [], ◌∷◌, refl, arith, inl, ap, ◌∙◌}
+use Rattle.std.proofs.Common.{◌≡◌, ℕ, ◌+◌, Ok, List, [], ◌∷◌, refl, arith, inl, ap, ◌∙◌}
 use Rattle.std.specs.FinMap.{empty}
 use Rattle.std.proofs.lemmas.Result.{IfOk-at_ok}
-use Rattle.ink_base.specs.declared.ident.ObjectId.{ObjectId}
 use Rattle.ink_base.specs.declared.value.Value.{Value}
 use Rattle.ink_base.specs.Actions.{Action}
 use Rattle.ink_base.specs.Actions as action
-use Rattle.ink_base.specs.Objects.{Objects}
 use Rattle.ink_code.specs.declared.code.Code.{Code}
 use Rattle.ink_code.specs.declared.frame.Frame.{Frame}
 use Rattle.ink_code.specs.declared.instr.Instr.{Instr}
 use Rattle.ink_code.specs.declared.instr.Instr.TheVariants as i
-use Rattle.ink_code.specs.Machine.{Stepped, Wants, Outcome, wants}
-use Rattle.ink_code.specs.Owned.{times_there, AreOwnedOnce}
+use Rattle.ink_code.specs.Machine.{Stepped, Wants, wants}
+use Rattle.ink_code.specs.Owned.{times_there}
 use Rattle.ink_code.specs.Process.{Process}
 use Rattle.ink_code.specs.Step.{instr_step, top_step, free_step}
-use Rattle.ink_code.specs.Trees.{Parcel, Parted, parted_of}
+use Rattle.ink_code.specs.Trees.{Parcel}
 use Rattle.ink_code.specs.Wanted.{sends_off, spawn_step, send_step, print_step, future_new_step, future_get_step, promise_set_step}
-use Rattle.ink_parcel.proofs.CutLemmas.{takes_of, cut_owned_once}
-use Rattle.ink_law_ownership.specs.Leaves.{StepLeaves, KeepsNames, Gives, carried}
+use Rattle.ink_parcel.proofs.CutLemmas.{takes_of}
+use Rattle.ink_law_ownership.specs.Leaves.{StepLeaves, IsTree, Gives, carried}
 use Rattle.ink_law_ownership.proofs.Counts.{none_in_empty}
+use Rattle.ink_law_ownership.proofs.CutTree.{cut_is_tree}
 use Rattle.ink_law_ownership.proofs.Instructions as one
-use Rattle.ink_law_ownership.proofs.Kept.{StepOf, idle}
+use Rattle.ink_law_ownership.proofs.Kept.{StepOf}
 use Rattle.ink_law_ownership.proofs.Right.{Right, right, given_right, after_right}
 
 -- with which nothing goes out
@@ -41,7 +40,7 @@ wants_right wish p nothing gives =
     })
 
 -- with which a parcel goes out
-sends_right : (values : List Value) (frames : List Frame) (p : Process) (made : Parcel → Action Parcel) → ((parcel : Parcel) → carried (made parcel) ≡ parcel.objects) → ((parcel : Parcel) (q : Process) → AreOwnedOnce parcel.values parcel.objects → Gives (Wants (made parcel)) p q) → Right (StepOf p) (sends_off values frames p made)
+sends_right : (values : List Value) (frames : List Frame) (p : Process) (made : Parcel → Action Parcel) → ((parcel : Parcel) → carried (made parcel) ≡ parcel.objects) → ((parcel : Parcel) (q : Process) → IsTree parcel → Gives (Wants (made parcel)) p q) → Right (StepOf p) (sends_off values frames p made)
 sends_right values frames p made carries gives = after_right (λ parts is.
     let parcel : Parcel = record { values = values; objects = parts.taken } in
     let t = takes_of values p.objects parts is in
@@ -57,23 +56,23 @@ sends_right values frames p made carries gives = after_right (λ parts is.
             let out = ap (times_there id) (carries parcel) in
             inl (omega arith);
       };
-      gives = gives parcel _ (cut_owned_once values p.objects parts is);
+      gives = gives parcel _ (cut_is_tree values p.objects parts is);
     }))
 
 spawn_right : (to kind : ℕ) (fields : List ℕ) (p : Process) → Right (StepOf p) (spawn_step to kind fields p)
 unfolding spawn_step
 spawn_right to kind fields p = given_right _ (λ had h. after_right (λ parts is.
-    sends_right parts.0 parts.1 p (action.Spawn kind) (λ parcel. refl) (λ parcel q once. once)))
+    sends_right parts.0 parts.1 p (action.Spawn kind) (λ parcel. refl) (λ parcel q tree. tree)))
 
 send_right : (code : Code) (process method : ℕ) (arguments : List ℕ) (p : Process) → Right (StepOf p) (send_step code process method arguments p)
 unfolding send_step
 send_right code process method arguments p = given_right _ (λ called h. after_right (λ value is. after_right (λ receiver k. after_right (λ parts l.
-    sends_right parts.0 parts.1 p (action.Send receiver method) (λ parcel. refl) (λ parcel q once. once)))))
+    sends_right parts.0 parts.1 p (action.Send receiver method) (λ parcel. refl) (λ parcel q tree. tree)))))
 
 promise_set_right : (promise from : ℕ) (p : Process) → Right (StepOf p) (promise_set_step promise from p)
 unfolding promise_set_step
 promise_set_right promise from p = after_right (λ value is. after_right (λ number k. after_right (λ parts l.
-    sends_right parts.0 parts.1 p (action.SetFuture number) (λ parcel. refl) (λ parcel q once. once))))
+    sends_right parts.0 parts.1 p (action.SetFuture number) (λ parcel. refl) (λ parcel q tree. tree))))
 
 print_right : (text : ℕ) (p : Process) → Right (StepOf p) (print_step text p)
 unfolding print_step

@@ -1,10 +1,11 @@
 -- What steps and replies leave of a process: whose it is, how many steps and objects it counts, and how its objects are named.
-use Rattle.std.specs.Prelude.{◌≡◌, ℕ, ◌+◌, ◌<◌, ◌≤◌, ◌⊎◌, Some}
-use Rattle.std.specs.FinMap.{empty}
+use Rattle.std.specs.Prelude.{◌≡◌, ℕ, ◌+◌, ◌<◌, ◌≤◌, ◌⊎◌, IsSome}
+use Rattle.std.specs.FinMap.{empty, get}
 use Rattle.ink_base.specs.declared.ident.ObjectId.{ObjectId}
 use Rattle.ink_base.specs.Actions.{Action}
 use Rattle.ink_base.specs.Actions as action
-use Rattle.ink_base.specs.Objects.{Objects}
+use Rattle.ink_base.specs.Objects.{Objects, fields_in}
+use Rattle.ink_base.specs.Tree.{InTree}
 use Rattle.ink_code.specs.Machine.{Stepped, Went, Wants, Panics, Spent}
 use Rattle.ink_code.specs.Owned.{times_there, AreOwnedOnce}
 use Rattle.ink_code.specs.Process.{Process}
@@ -41,12 +42,17 @@ abbrev pub steps_in : Stepped → ℕ
 steps_in Went = 1
 steps_in other = 0
 
--- each object of a parcel that goes out is owned once, and the process stays as it was where nothing goes out
+-- the objects of a parcel are the tree of its values, in which each is owned once
+pub record IsTree (parcel : Parcel) : Type 0 where
+  pub owned : AreOwnedOnce parcel.values parcel.objects
+  pub tree : (id : ObjectId) → IsSome (get parcel.objects id) → InTree (fields_in parcel.objects) parcel.values id
+
+-- a parcel that goes out is a tree, and the process stays as it was where none goes out
 abbrev pub Gives : Stepped → Process → Process → Type 0
 Gives Went p q = Unit {0}
-Gives (Wants (action.Spawn kind parcel)) p q = AreOwnedOnce parcel.values parcel.objects
-Gives (Wants (action.Send to method parcel)) p q = AreOwnedOnce parcel.values parcel.objects
-Gives (Wants (action.SetFuture future parcel)) p q = AreOwnedOnce parcel.values parcel.objects
+Gives (Wants (action.Spawn kind parcel)) p q = IsTree parcel
+Gives (Wants (action.Send to method parcel)) p q = IsTree parcel
+Gives (Wants (action.SetFuture future parcel)) p q = IsTree parcel
 Gives (Wants action.Take) p q = q ≡ p
 Gives (Wants (action.Print text)) p q = q ≡ p
 Gives (Wants action.NewFuture) p q = q ≡ p

@@ -1,33 +1,22 @@
 -- With which objects a process starts: its state alone, without fields.
-use Rattle.std.proofs.Common.{◌≡◌, ℕ, Bool, true, false, cond, Option, None, Some, List, [], refl, sym, ap, ◌∙◌, subst}
-use Rattle.std.proofs.lemmas.Option.{none-some}
+use Rattle.std.proofs.Common.{◌≡◌, ℕ, ◌+◌, Bool, true, false, cond, Option, None, Some, List, [], ◌∷◌, refl, sym, ap, ◌∙◌, subst, arith}
 use Rattle.std.specs.Prelude.{IsSome}
-use Rattle.std.specs.List.{slice_get}
-use Rattle.std.specs.Option.{option_map_or}
 use Rattle.std.specs.FinMap.{empty, get, insert, get-empty, get-insert}
 use Rattle.ink_base.specs.declared.ident.ObjectId.{ObjectId}
 use Rattle.ink_base.specs.declared.object.Object.{Object}
-use Rattle.ink_base.specs.declared.value.Value.{Value}
 use Rattle.ink_base.specs.declared.value.Value.TheVariants.{Own}
 use Rattle.ink_base.specs.Ident.{id_cmp}
-use Rattle.ink_base.specs.Objects.{Objects, fields_in}
+use Rattle.ink_base.specs.Objects.{Objects}
 use Rattle.ink_base.proofs.IdentLemmas.{id_cmp_total}
-use Rattle.ink_heap.proofs.ObjectsLemmas.{is_same, is_same-itself, is_same-one}
-use Rattle.ink_proc.specs.Starts.{CanStart, Owns}
-
-abbrev pub state_name : ℕ → ObjectId
-state_name number = record { process = number; serial = 1 }
+use Rattle.ink_code.specs.Owned.{times_owned_by, AreOwnedOnce}
+use Rattle.ink_code.specs.Process.{state_name}
+use Rattle.ink_heap.proofs.ObjectsLemmas.{is_same, is_same-one}
+use Rattle.ink_parcel.proofs.OwnedLemmas.{times_owned_in-insert, times_owned_in-empty, times_there-insert, times_there-empty}
+use Rattle.ink_proc.specs.Starts.{CanStart}
 
 one_there : (test : Bool) (object : Object) → IsSome (cond test (Some object) None) → test ≡ true
 one_there true object there = refl
 one_there false object there = there
-
-no_fields : (test : Bool) (object : Object) → object.fields ≡ [] → option_map_or (λ (found : Object). found.fields) (cond test (Some object) None) [] ≡ []
-no_fields true object none = none
-no_fields false object none = refl
-
-none_at : (values : List Value) (place : ℕ) (value : Value) → values ≡ [] → slice_get values place ≡ Some value → ⊥
-none_at values place value none found = none-some value (sym (ap (λ vs. slice_get vs place) none) ∙ found)
 
 module _ (number : ℕ) (object : Object) (none : object.fields ≡ []) where
   abbrev objects : Objects
@@ -42,23 +31,21 @@ module _ (number : ℕ) (object : Object) (none : object.fields ≡ []) where
   alone id there =
       is_same-one id (state_name number) (one_there (is_same id (state_name number)) object (subst IsSome (found_at id) there))
 
-  owns_none : (owner : ObjectId) (field : ℕ) (id : ObjectId) → Owns objects owner field id → ⊥
-  owns_none owner field id owns =
-      none_at (fields_in objects owner) field (Own id)
-      (ap (λ found. option_map_or (λ (o : Object). o.fields) found []) (found_at owner) ∙ no_fields (is_same owner (state_name number)) object none) owns
-
-  state_there : IsSome (get objects (state_name number))
-  state_there =
-      subst IsSome (sym (found_at (state_name number) ∙ ap (λ test. cond test (Some object) None) (is_same-itself (state_name number)))) refl
+  owned_once : AreOwnedOnce (Own (state_name number) ∷ []) objects
+  owned_once n =
+      let fields = times_owned_in-insert n (state_name number) object empty (get-empty id_cmp (state_name number)) in
+      let nothing = times_owned_in-empty n in
+      let no_field = ap (times_owned_by n) none in
+      let there = times_there-insert n (state_name number) object empty (get-empty id_cmp (state_name number)) in
+      let no_other = times_there-empty n in
+      omega arith
 
   starts_alone : CanStart number (state_name number) objects
   starts_alone = record {
     named = refl;
-    there = state_there;
     alone = λ id there same. alone id there;
     below = λ id there other. absurd (other (alone id there));
-    owned = λ id there other. absurd (other (alone id there));
-    owners = λ owner field id owns. absurd (owns_none owner field id owns);
+    owned = owned_once;
   }
 
 -- a process can start with one object without fields, which is its state, where it was put among no others

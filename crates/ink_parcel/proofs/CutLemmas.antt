@@ -36,13 +36,13 @@ Takes-none values old new none same =
 abbrev pub taken_one : ObjectId → Object → Parted → Parted
 taken_one id object parts = record { left = remove parts.left id; taken = insert parts.taken id object }
 
-not_taken : (id : ObjectId) (object : Object) (parts : Parted) → AreParted parts → get parts.left id ≡ Some object → get parts.taken id ≡ None
+pub not_taken : (id : ObjectId) (object : Object) (parts : Parted) → AreParted parts → get parts.left id ≡ Some object → get parts.taken id ≡ None
 not_taken id object parts apart has =
     let one = times_there-some id object parts.left has in
     let both = apart id in
     times_there-none id parts.taken (omega arith)
 
-AreParted-one : (id : ObjectId) (object : Object) (parts : Parted) → AreParted parts → get parts.left id ≡ Some object → AreParted (taken_one id object parts)
+pub AreParted-one : (id : ObjectId) (object : Object) (parts : Parted) → AreParted parts → get parts.left id ≡ Some object → AreParted (taken_one id object parts)
 AreParted-one id object parts apart has n =
     let less = times_there-remove n id object parts.left has in
     let more = times_there-insert n id object parts.taken (not_taken id object parts apart has) in
@@ -75,10 +75,10 @@ Takes-one values rest id object old new apart is has t =
 abbrev Goes : (List Value → Parted → Result Parted Wrong) → Parted → Type 0
 Goes further new = (values : List Value) (parts : Parted) → AreParted parts → further values parts ≡ Ok new → Takes values parts new
 
-abbrev right : Parted → Result Parted Wrong
+abbrev pub right : Parted → Result Parted Wrong
 right parts = Ok parts
 
-right_of : (a b : Parted) → right a ≡ Ok b → a ≡ b
+pub right_of : (a b : Parted) → right a ≡ Ok b → a ≡ b
 right_of a b is = cc
 
 takes_if : (values rest : List Value) (id : ObjectId) (old new : Parted) (further : List Value → Parted → Result Parted Wrong) (found : Option Object) → get old.left id ≡ found → AreParted old → first_owned values ≡ Some (id, rest) → Goes further new → take_if found id rest old further ≡ Ok new → Takes values old new
@@ -101,7 +101,7 @@ takes zero values old new apart took = takes_none values old new (first_owned va
 takes (suc most) values old new apart took =
     takes_first values old new (λ more parts. parted_by most more parts) (first_owned values) refl apart (λ more parts parted went. takes most more parts new parted went) took
 
-at_most_one : (found : Option Object) → one_if (is_some found) ≤ 1
+pub at_most_one : (found : Option Object) → one_if (is_some found) ≤ 1
 at_most_one None = omega arith
 at_most_one (Some object) = omega arith
 
