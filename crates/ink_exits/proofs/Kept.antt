@@ -1,11 +1,11 @@
 -- What was in scope stays at the front while more is declared, and nodes have the numbers by which they are read.
-use Rattle.std.proofs.Common.{◌≡◌, ℕ, ◌<◌, List, [], ◌∷◌, ◌++◌, length, map, take, refl, sym, ap, ◌∙◌, append_assoc}
+use Rattle.std.proofs.Common.{◌≡◌, ℕ, List, [], ◌∷◌, ◌++◌, length, map, take, refl, sym, ap, ◌∙◌, append_assoc}
 use Rattle.std.specs.Prelude.{slice_get}
 use Rattle.std.proofs.lemmas.List.{append-nil, take_at}
 use Rattle.ink_forms.specs.declared.arena.Arena.{Arena}
 use Rattle.ink_forms.specs.declared.pattern.Pattern.{Pattern}
 use Rattle.ink_forms.specs.declared.pattern.Pattern.TheVariants as p
-use Rattle.ink_forms.specs.Trees.{Spot, Pat, Pats, FieldPats, Wildcard, LitPat, Name, Constructor, Either, Fields, NoPat, AndPat, NoField, AndField, Term, Terms, Lit, Var, SelfValue, Field, Borrow, Set, Swap, Let, Block, New, Arr, Call, Fn, Static, Match, Loop, Break, Next, Return, Recover, Panic, Drop, Statement, NoTerm, AndTerm, ParameterTree}
+use Rattle.ink_forms.specs.Trees.{Spot, Pat, Pats, FieldPats, Wildcard, LitPat, Name, Constructor, Either, Fields, NoPat, AndPat, NoField, AndField, Term, Terms, Let, NoTerm, AndTerm, ParameterTree}
 use Rattle.ink_forms.specs.Built.{Lists, Item, spot, grow_pat}
 use Rattle.ink_forms.specs.Reads as read
 use Rattle.ink_forms.specs.Views as view

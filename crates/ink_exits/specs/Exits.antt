@@ -1,5 +1,5 @@
 -- What each exit leaves: an entry for each node, with variables in the order in which they are declared.
-use Rattle.std.specs.Prelude.{ℕ, List, [], ◌∷◌, length, drop, slice_set, slice_index_or}
+use Rattle.std.specs.Prelude.{ℕ, List, [], length, drop, slice_set, slice_index_or}
 use Rattle.ink_forms.specs.declared.list.Children.{Children}
 use Rattle.ink_forms.specs.Trees.{ByName, ByOperator, Term, Terms, Arguments, Guard, Arms, Lit, Var, SelfValue, Field, Borrow, Set, Swap, Let, Block, New, Arr, Call, Fn, Static, Match, Loop, Break, Next, Return, Recover, Panic, Drop, Statement, NoTerm, AndTerm, NoArgument, AndArgument, Always, When, NoArm, AndArm, OneArm, MethodTree}
 use Rattle.ink_exits.specs.Scopes.{declare, declare_all, bind, number_of_pat, scope_of}
