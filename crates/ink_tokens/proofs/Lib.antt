@@ -4,6 +4,7 @@ pub mod MatchLemmas
 pub mod LengthLemmas
 pub mod LexesLemmas
 pub mod NumberLemmas
+pub mod PairLemmas
 pub mod PartLemmas
 pub mod SoundLemmas
 pub mod SpellingLemmas

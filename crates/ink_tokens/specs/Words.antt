@@ -1,5 +1,5 @@
 -- How far names and symbols run, and which words the language keeps.
-use Rattle.std.specs.Prelude.{ℕ, ◌+◌, Bool, ◌&&◌, ◌==◌, nat_le, if◌then◌else◌, List, [], ◌∷◌, length, take, drop, codes, slice_index}
+use Rattle.std.specs.Prelude.{ℕ, ◌+◌, Bool, ◌&&◌, ◌||◌, ◌==◌, nat_le, if◌then◌else◌, List, [], ◌∷◌, length, take, drop, codes, slice_index}
 use Rattle.std.specs.List.{prefix_len, list_any}
 use Rattle.std.specs.Str.{bytes_eq}
 use Rattle.std.specs.Char.{is_ascii_uppercase}
@@ -41,6 +41,10 @@ singles = codes "()[]{},.:=<>+-*/%&|^"
 -- whether a text is a symbol of two bytes
 unfoldable pub is_pair : List ℕ → Bool
 is_pair text = list_any (λ pair. bytes_eq pair text) pairs
+
+-- what a symbol of two bytes ends with
+abbrev pub ends_pair : ℕ → Bool
+ends_pair byte = byte == 61 || byte == 60 || byte == 62
 
 -- whether a byte alone is a symbol
 unfoldable pub is_single : ℕ → Bool

@@ -1,6 +1,6 @@
 //! The forms of names, of symbols, and of the words that the language keeps.
 ghost use Rattle.std.specs.Prelude.{◌≡◌, ◌<◌, ◌≤◌, length, true};
-ghost use Rattle.ink_tokens.specs.Words.{name_length, const_length, field_length, symbol_length, is_pair, is_single, is_keyword, word_kind, ends_bracket, is_value_word};
+ghost use Rattle.ink_tokens.specs.Words.{name_length, const_length, field_length, symbol_length, is_pair, ends_pair, is_single, is_keyword, word_kind, ends_bracket, is_value_word};
 
 use crate::bytes::{Class, begins_name, byte_at, run};
 use ink_base::TokenKind;
@@ -85,11 +85,22 @@ pub(crate) fn symbol_length(bytes: &[u8]) -> usize
     }
 }
 
+/// Whether a symbol of two bytes ends with the byte.
+fn ends_pair(byte: u8) -> bool
+    ensures { result ≡ ends_pair byte }
+{
+    byte == b'=' || byte == b'<' || byte == b'>'
+}
+
 /// Whether the text is a symbol of two bytes.
-#[tactic(auto, unfolding(crate::specs::Words::is_pair))]
+#[tactic(auto, unfolding(crate::specs::Words::is_pair), using(crate::proofs::PairLemmas::no_pair))]
 fn is_pair(text: &[u8]) -> bool
     ensures { result ≡ is_pair text.now }
 {
+    // Most texts are told apart by one byte, before each symbol is compared.
+    if !ends_pair(byte_at(text, 1)) {
+        return false;
+    }
     PAIRS.contains(&text)
 }
 
