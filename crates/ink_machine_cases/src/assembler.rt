@@ -15,7 +15,7 @@ use ink_code::{Code, Impl, Instr, Method};
 use std::alloc::{AllocError, AllocFailed, Global};
 
 /// The names of the types that each code has, from type 0 on.
-const TYPES: [&str; 11] = [
+static TYPES: [&str; 11] = [
     "Int", "Bool", "Nil", "String", "Never", "Option", "Pair", "Array", "Future", "Promise",
     "Stdout",
 ];

@@ -2,14 +2,15 @@
 
 use crate::answers::{NoReply, reply_in};
 use crate::limits::{limit_of, limits_with};
-use crate::looks::{all_of, frames_text, objects_text, waiting_text};
-use crate::told::{came_text, text_of, wrong_word};
+use crate::looks::{all_of, frames, objects, waiting};
+use crate::told::{came, numbered, text_of, wrong_word};
 use crate::words::{first_word, two_numbers, value_of, values};
 use ink_base::{Items, Limits, Object, ObjectId, Value};
 use ink_code::{Code, Frame, listing};
 use ink_heap::Heap;
 use ink_interp::{AnswerFault, answer, slice, step};
 use ink_proc::Proc;
+use ink_sheet::Sheet;
 use std::alloc::{AllocError, Global};
 
 /// What is told of a line that says nothing.
@@ -57,24 +58,45 @@ impl Bench {
     }
 
     /// Does what a line says, and tells what came of it.
-    pub fn act(&mut self, alloc: Global, line: &str) -> Result<String, AllocError> {
+    pub fn act(&mut self, alloc: Global, sheet: &mut Sheet, line: &str) -> Result<(), AllocError> {
         let (word, rest) = first_word(line);
         match word {
-            "run" => self.run(alloc, rest),
-            "step" => self.step(alloc),
-            "cuts" => self.cuts(alloc, rest),
-            "answer" => self.answer(alloc, rest),
-            "frames" => frames_text(alloc, &self.process),
-            "objects" => objects_text(alloc, &self.process),
-            "waiting" => waiting_text(alloc, &self.process),
-            "steps" => format!(in alloc; "{}", self.process.ran),
-            "listing" => listing_text(alloc, &self.code),
-            "fetch" => self.fetch(alloc, rest),
+            "step" => self.step(alloc, sheet),
+            "cuts" => self.cuts(alloc, sheet, rest),
+            "answer" => self.answer(alloc, sheet, rest),
+            "limit" | "frame" | "register" | "object" => self.make(alloc, sheet, word, rest),
             _ => {
-                let is_done = self.set_up(alloc, word, rest)?.is_some();
-                String::from_str(alloc, if is_done { "done" } else { NOT_UNDERSTOOD })
+                self.look(alloc, sheet, word, rest);
+                Ok(())
             }
         }
+    }
+
+    /// Runs, or tells what is to be seen.
+    fn look(&mut self, alloc: Global, sheet: &mut Sheet, word: &str, rest: &str) {
+        match word {
+            "run" => self.run(alloc, sheet, rest),
+            "frames" => frames(sheet, &self.process),
+            "objects" => objects(sheet, &self.process),
+            "waiting" => waiting(sheet, &self.process),
+            "steps" => sheet.plain(&self.process.ran),
+            "listing" => told_listing(alloc, sheet, &self.code),
+            "fetch" => self.fetch(sheet, rest),
+            _ => sheet.text(NOT_UNDERSTOOD),
+        }
+    }
+
+    /// Makes the process ready, and tells whether the line is understood.
+    fn make(
+        &mut self,
+        alloc: Global,
+        sheet: &mut Sheet,
+        word: &str,
+        rest: &str,
+    ) -> Result<(), AllocError> {
+        let is_done = self.set_up(alloc, word, rest)?.is_some();
+        sheet.text(if is_done { "done" } else { NOT_UNDERSTOOD });
+        Ok(())
     }
 
     /// Makes the process ready. `None` where the line isn't understood.
@@ -149,24 +171,25 @@ impl Bench {
     }
 
     /// `STEPS`: a slice of so many.
-    fn run(&mut self, alloc: Global, line: &str) -> Result<String, AllocError> {
-        let Ok(turns) = line.parse() else {
-            return String::from_str(alloc, NOT_UNDERSTOOD);
-        };
-        let came = slice(alloc, &mut self.process, &self.code, &self.limits, turns);
-        came_text(alloc, &came)
+    fn run(&mut self, alloc: Global, sheet: &mut Sheet, line: &str) {
+        match line.parse() {
+            Err(_) => sheet.text(NOT_UNDERSTOOD),
+            Ok(turns) => {
+                let ran = slice(alloc, &mut self.process, &self.code, &self.limits, turns);
+                came(sheet, &ran);
+            }
+        }
     }
 
     /// One step. It is told where the process is as before.
-    fn step(&mut self, alloc: Global) -> Result<String, AllocError> {
+    fn step(&mut self, alloc: Global, sheet: &mut Sheet) -> Result<(), AllocError> {
         let before = all_of(alloc, &self.process)?;
-        let came = step(alloc, &mut self.process, &self.code, &self.limits);
-        let text = came_text(alloc, &came)?;
+        let stepped = step(alloc, &mut self.process, &self.code, &self.limits);
+        came(sheet, &stepped);
         if all_of(alloc, &self.process)?.as_str() == before.as_str() {
-            format!(in alloc; "{text}, and the process is as before")
-        } else {
-            Ok(text)
+            sheet.text(", and the process is as before");
         }
+        Ok(())
     }
 
     /// A process that has just begun method 0 makes so many steps in two slices.
@@ -181,49 +204,67 @@ impl Bench {
         all_of(alloc, &self.process)
     }
 
-    /// `STEPS`: whether so many steps from the beginning of method 0 leave the process the same wherever they are cut.
-    fn cuts(&mut self, alloc: Global, line: &str) -> Result<String, AllocError> {
-        let Ok(turns) = line.parse::<u64>() else {
-            return String::from_str(alloc, NOT_UNDERSTOOD);
-        };
+    /// The first place at which a cut of so many steps from the beginning of method 0 leaves another process than none.
+    fn first_cut(&mut self, alloc: Global, turns: u64) -> Result<Option<u64>, AllocError> {
         let whole = self.in_two(alloc, 0, turns)?;
         for first in 0..turns.saturating_add(1) {
             let cut = self.in_two(alloc, first, turns.saturating_sub(first))?;
             if cut.as_str() != whole.as_str() {
-                return format!(in alloc; "another process where it is cut at {first}");
+                return Ok(Some(first));
             }
         }
-        String::from_str(alloc, "the same process at each cut")
+        Ok(None)
+    }
+
+    /// `STEPS`: whether so many steps from the beginning of method 0 leave the process the same wherever they are cut.
+    fn cuts(&mut self, alloc: Global, sheet: &mut Sheet, line: &str) -> Result<(), AllocError> {
+        match line.parse() {
+            Err(_) => sheet.text(NOT_UNDERSTOOD),
+            Ok(turns) => match self.first_cut(alloc, turns)? {
+                None => sheet.text("the same process at each cut"),
+                Some(first) => numbered(sheet, "another process where it is cut at ", first),
+            },
+        }
+        Ok(())
     }
 
     /// A reply comes for the action that is wanted.
-    fn answer(&mut self, alloc: Global, line: &str) -> Result<String, AllocError> {
+    fn answer(&mut self, alloc: Global, sheet: &mut Sheet, line: &str) -> Result<(), AllocError> {
         let reply = match reply_in(alloc, line) {
             Ok(reply) => reply,
-            Err(NoReply::NotUnderstood) => return String::from_str(alloc, NOT_UNDERSTOOD),
+            Err(NoReply::NotUnderstood) => {
+                sheet.text(NOT_UNDERSTOOD);
+                return Ok(());
+            }
             Err(NoReply::OutOfMemory) => return Err(AllocError),
         };
         match answer(alloc, &mut self.process, &self.code, reply) {
-            Ok(()) => String::from_str(alloc, "taken"),
-            Err(AnswerFault::Wrong(why)) => String::from_str(alloc, wrong_word(why)),
-            Err(AnswerFault::OutOfMemory(_)) => Err(AllocError),
+            Ok(()) => sheet.text("taken"),
+            Err(AnswerFault::Wrong(why)) => sheet.text(wrong_word(why)),
+            Err(AnswerFault::OutOfMemory(_)) => return Err(AllocError),
         }
+        Ok(())
     }
 
     /// `METHOD PLACE`: the instruction there.
-    fn fetch(&self, alloc: Global, line: &str) -> Result<String, AllocError> {
+    fn fetch(&self, sheet: &mut Sheet, line: &str) {
         match two_numbers(line) {
-            None => String::from_str(alloc, NOT_UNDERSTOOD),
+            None => sheet.text(NOT_UNDERSTOOD),
             Some((method, place, _)) => match self.code.fetch(method, place) {
-                None => String::from_str(alloc, "none"),
-                Some(instr) => format!(in alloc; "{instr:?}"),
+                None => sheet.text("none"),
+                Some(instr) => sheet.shown(instr),
             },
         }
     }
 }
 
 /// The listing of a code, with a line break before it.
-fn listing_text(alloc: Global, code: &Code) -> Result<String, AllocError> {
-    let lines = listing(alloc, code)?;
-    format!(in alloc; "\n{}", text_of(&lines).trim_end())
+fn told_listing(alloc: Global, sheet: &mut Sheet, code: &Code) {
+    match listing(alloc, code) {
+        Err(AllocError) => sheet.text("no memory"),
+        Ok(lines) => {
+            sheet.text("\n");
+            sheet.text(text_of(&lines).trim_end());
+        }
+    }
 }

@@ -2,9 +2,10 @@
 
 use crate::assembler::assemble;
 use crate::bench::Bench;
+use crate::told::numbered;
 use crate::words::first_word;
-use std::alloc::Global;
-use std::io;
+use ink_sheet::Sheet;
+use std::alloc::{AllocError, Global};
 
 /// A case, as far as it was read: the lines of its code, and behind these the process.
 #[derive(Drop)]
@@ -23,45 +24,51 @@ impl Case {
     }
 
     /// Reads a line: `case NAME` begins another case, `process NUMBER` ends the code, and a line behind that is done.
-    pub fn read<R: Print + AllocGlobal>(&mut self, rt: &R, line: &str) -> io::Result<()> {
+    pub fn read(&mut self, alloc: Global, sheet: &mut Sheet, line: &str) -> Result<(), AllocError> {
         match first_word(line) {
             ("", _) => Ok(()),
             ("case", name) => {
-                *self = Case::new(rt.alloc());
-                rt.println(name)
+                *self = Case::new(alloc);
+                sheet.text(name);
+                sheet.text("\n");
+                Ok(())
             }
-            ("process", number) => self.start(rt, number),
-            _ => self.go_on(rt, line),
+            ("process", number) => self.start(alloc, sheet, number),
+            _ => self.go_on(alloc, sheet, line),
         }
     }
 
     /// The code is read, and a process of that number waits.
-    fn start<R: Print + AllocGlobal>(&mut self, rt: &R, number: &str) -> io::Result<()> {
-        match assemble(rt.alloc(), self.code.as_str()) {
+    fn start(&mut self, alloc: Global, sheet: &mut Sheet, number: &str) -> Result<(), AllocError> {
+        match assemble(alloc, self.code.as_str()) {
             Ok(code) => {
                 let number = number.parse().unwrap_or(1);
-                self.bench = Some(Bench::new(rt.alloc(), code, number)?);
-                Ok(())
+                self.bench = Some(Bench::new(alloc, code, number)?);
             }
             Err(fault) => {
-                let why = fault.why.text();
-                let line = fault.line;
-                rt.println(format!(in rt.alloc(); "  line {line} of the code: {why}")?)
+                numbered(sheet, "  line ", fault.line);
+                sheet.text(" of the code: ");
+                sheet.text(fault.why.text());
+                sheet.text("\n");
             }
         }
+        Ok(())
     }
 
     /// A line of the code, or one that is done.
-    fn go_on<R: Print + AllocGlobal>(&mut self, rt: &R, line: &str) -> io::Result<()> {
+    fn go_on(&mut self, alloc: Global, sheet: &mut Sheet, line: &str) -> Result<(), AllocError> {
         match &mut self.bench {
             None => {
                 self.code.push_str(line)?;
-                self.code.push_str("\n")?;
-                Ok(())
+                self.code.push_str("\n")
             }
             Some(bench) => {
-                let came = bench.act(rt.alloc(), line)?;
-                rt.println(format!(in rt.alloc(); "  {line}: {came}")?)
+                sheet.text("  ");
+                sheet.text(line);
+                sheet.text(": ");
+                bench.act(alloc, sheet, line)?;
+                sheet.text("\n");
+                Ok(())
             }
         }
     }

@@ -3,7 +3,7 @@
 use ink_base::{Limit, Limits};
 
 /// All limits.
-const LIMITS: [Limit; 14] = [
+static LIMITS: [Limit; 14] = [
     Limit::Source,
     Limit::Height,
     Limit::Frames,

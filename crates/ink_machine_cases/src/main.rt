@@ -16,15 +16,17 @@ mod told;
 mod words;
 
 use crate::case::Case;
+use ink_sheet::Sheet;
 use std::rt::{Env, Files};
 use std::{env, fs, io};
 
 /// Runs the cases of a file.
-fn run_file<R: Print + Files + AllocGlobal>(rt: &R, path: &str) -> io::Result<()> {
+fn run_file<R: Files + AllocGlobal>(rt: &R, sheet: &mut Sheet, path: &str) -> io::Result<()> {
+    let alloc = rt.alloc();
     let text = fs::read_to_string(rt, path)?;
-    let mut case = Case::new(rt.alloc());
+    let mut case = Case::new(alloc);
     for line in text.as_str().lines() {
-        case.read(rt, line)?;
+        case.read(alloc, sheet, line)?;
     }
     Ok(())
 }
@@ -33,8 +35,9 @@ fn main(rt: HostRuntime) -> io::Result<()> {
     let Ok(words) = env::args(&rt) else {
         return Ok(());
     };
+    let mut sheet = Sheet::new(rt.alloc());
     for path in words.skip(1) {
-        run_file(&rt, path.as_str())?;
+        run_file(&rt, &mut sheet, path.as_str())?;
     }
-    Ok(())
+    print!(rt; "{}", sheet.whole()?)
 }

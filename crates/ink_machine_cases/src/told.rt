@@ -4,7 +4,7 @@ use ink_base::{ObjectId, Text, Value};
 use ink_code::Wrong;
 use ink_interp::{Request, StepFault, Stepped};
 use ink_parcel::Parcel;
-use std::alloc::{AllocError, Global};
+use ink_sheet::Sheet;
 use std::str;
 
 /// A text. Nothing where it isn't UTF-8.
@@ -15,41 +15,52 @@ pub fn text_of(text: &Text) -> &str {
     }
 }
 
+/// A number behind words.
+pub fn numbered(sheet: &mut Sheet, words: &str, number: u64) {
+    sheet.text(words);
+    sheet.plain(&number);
+}
+
 /// The words for an owner or a borrow of an object.
-fn name_text(alloc: Global, kind: &str, id: &ObjectId) -> Result<String, AllocError> {
-    format!(in alloc; "{kind}:{}.{}", id.process, id.serial)
+fn name(sheet: &mut Sheet, kind: &str, id: &ObjectId) {
+    numbered(sheet, kind, u64::from(id.process));
+    numbered(sheet, ".", id.serial);
 }
 
 /// A value, as a case writes it.
-pub fn value_text(alloc: Global, value: &Value) -> Result<String, AllocError> {
+pub fn value(sheet: &mut Sheet, value: &Value) {
     match value {
-        Value::Int(number) => format!(in alloc; "{number}"),
-        Value::Bool(truth) => format!(in alloc; "{truth}"),
-        Value::Nil => String::from_str(alloc, "nil"),
-        Value::Txt(text) => format!(in alloc; "'{}'", text_of(text)),
-        Value::Own(id) => name_text(alloc, "own", id),
-        Value::Bor(id) => name_text(alloc, "borrow", id),
-        Value::Proc(number) => format!(in alloc; "process:{number}"),
-        Value::Future(number) => format!(in alloc; "future:{number}"),
-        Value::Promise(number) => format!(in alloc; "promise:{number}"),
-        Value::Empty => String::from_str(alloc, "empty"),
+        Value::Int(number) => sheet.plain(number),
+        Value::Bool(truth) => sheet.plain(truth),
+        Value::Nil => sheet.text("nil"),
+        Value::Txt(text) => {
+            sheet.text("'");
+            sheet.text(text_of(text));
+            sheet.text("'");
+        }
+        Value::Own(id) => name(sheet, "own:", id),
+        Value::Bor(id) => name(sheet, "borrow:", id),
+        Value::Proc(number) => numbered(sheet, "process:", u64::from(*number)),
+        Value::Future(number) => numbered(sheet, "future:", u64::from(*number)),
+        Value::Promise(number) => numbered(sheet, "promise:", u64::from(*number)),
+        Value::Empty => sheet.text("empty"),
     }
 }
 
 /// Values, each behind a blank.
-pub fn values_text(alloc: Global, values: &[Value]) -> Result<String, AllocError> {
-    let mut text = String::new(alloc);
-    for value in values {
-        text.push_str(" ")?;
-        text.push_str(value_text(alloc, value)?.as_str())?;
+pub fn values(sheet: &mut Sheet, values: &[Value]) {
+    for given in values {
+        sheet.text(" ");
+        value(sheet, given);
     }
-    Ok(text)
 }
 
 /// What goes out: the values, and how many objects they take along.
-fn parcel_text(alloc: Global, parcel: &Parcel) -> Result<String, AllocError> {
-    let values = values_text(alloc, parcel.values())?;
-    format!(in alloc; "{values}; objects {}", parcel.object_count())
+fn parcel(sheet: &mut Sheet, words: &str, parcel: &Parcel) {
+    sheet.text(words);
+    values(sheet, parcel.values());
+    sheet.text("; objects ");
+    sheet.plain(&parcel.object_count());
 }
 
 /// The word for the way in which an instruction or an answer is wrong.
@@ -62,37 +73,56 @@ pub fn wrong_word(why: Wrong) -> &'static str {
     }
 }
 
-/// The action that is wanted.
-fn request_text(alloc: Global, request: &Request) -> Result<String, AllocError> {
-    match request {
-        Request::Take => String::from_str(alloc, "wants a message"),
-        Request::Print(text) => format!(in alloc; "wants print {}", text_of(text)),
+/// The action that is wanted, where it isn't one of a future.
+fn request(sheet: &mut Sheet, wanted: &Request) {
+    match wanted {
+        Request::Take => sheet.text("wants a message"),
+        Request::Print(text) => {
+            sheet.text("wants print ");
+            sheet.text(text_of(text));
+        }
         Request::Spawn { kind, fields } => {
-            let fields = parcel_text(alloc, fields)?;
-            format!(in alloc; "wants spawn of type {kind} with{fields}")
+            numbered(sheet, "wants spawn of type ", u64::from(*kind));
+            parcel(sheet, " with", fields);
         }
         Request::Send { to, method, values } => {
-            let values = parcel_text(alloc, values)?;
-            format!(in alloc; "wants send to process {to} of method {method} with{values}")
+            numbered(sheet, "wants send to process ", u64::from(*to));
+            numbered(sheet, " of method ", u64::from(*method));
+            parcel(sheet, " with", values);
         }
-        Request::NewFuture => String::from_str(alloc, "wants a future"),
+        _ => future_request(sheet, wanted),
+    }
+}
+
+/// The action on a future that is wanted.
+fn future_request(sheet: &mut Sheet, wanted: &Request) {
+    match wanted {
         Request::SetFuture { future, value } => {
-            let value = parcel_text(alloc, value)?;
-            format!(in alloc; "wants future {future} set to{value}")
+            numbered(sheet, "wants future ", u64::from(*future));
+            parcel(sheet, " set to", value);
         }
-        Request::BreakFuture { future } => format!(in alloc; "wants future {future} broken"),
-        Request::GetFuture { future } => format!(in alloc; "wants the value of future {future}"),
+        Request::BreakFuture { future } => {
+            numbered(sheet, "wants future ", u64::from(*future));
+            sheet.text(" broken");
+        }
+        Request::GetFuture { future } => {
+            numbered(sheet, "wants the value of future ", u64::from(*future));
+        }
+        _ => sheet.text("wants a future"),
     }
 }
 
 /// What a step or a slice came to.
-pub fn came_text(alloc: Global, came: &Result<Stepped, StepFault>) -> Result<String, AllocError> {
+pub fn came(sheet: &mut Sheet, came: &Result<Stepped, StepFault>) {
     match came {
-        Ok(Stepped::Went) => String::from_str(alloc, "went"),
-        Ok(Stepped::Wants(request)) => request_text(alloc, request),
-        Ok(Stepped::Panics(text)) => format!(in alloc; "panics {}", text_of(text)),
-        Ok(Stepped::Spent(steps)) => format!(in alloc; "spent {steps}"),
-        Err(StepFault::Wrong(why)) => String::from_str(alloc, wrong_word(*why)),
-        Err(StepFault::OutOfMemory) => String::from_str(alloc, "no memory"),
+        Ok(Stepped::Went) => sheet.text("went"),
+        Ok(Stepped::Wants(wanted)) => request(sheet, wanted),
+        Ok(Stepped::Panics(text)) => {
+            sheet.text("panics ");
+            sheet.text(text_of(text));
+        }
+        Ok(Stepped::Spent(steps)) => numbered(sheet, "spent ", *steps),
+        Err(StepFault::Wrong(why)) => sheet.text(wrong_word(*why)),
+        Err(StepFault::OutOfMemory) => sheet.text("no memory"),
     }
 }

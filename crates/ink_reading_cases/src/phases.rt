@@ -1,9 +1,10 @@
 //! What the phases of the reading answer: tokens, shapes, the grammar, and the whole.
 
-use ink_base::{JudgeFault, Limits, Token};
+use ink_base::{JudgeFault, Limits, Refusal, Token};
 use ink_grammar::{ParseError, Terminal, parse};
 use ink_reading::read_module;
 use ink_shapes::{shape_of, shapes};
+use ink_sheet::Sheet;
 use ink_tokens::tokens;
 use std::alloc::{AllocError, Global};
 
@@ -23,33 +24,55 @@ pub fn fault_told(alloc: Global, fault: JudgeFault) -> Result<String, AllocError
 
 /// A text that is told as it is.
 pub fn text_told(alloc: Global, text: &[u8]) -> Result<String, AllocError> {
-    match str::from_utf8(text) {
-        Ok(text) => String::from_str(alloc, text),
-        Err(_) => String::from_str(alloc, "no UTF-8"),
-    }
+    String::from_str(alloc, text_of(text))
+}
+
+/// The characters of a text.
+fn text_of(text: &[u8]) -> &str {
+    str::from_utf8(text).unwrap_or("no UTF-8")
+}
+
+/// The characters of a token.
+pub fn terminal_text(source: &[u8], token: Terminal) -> &str {
+    text_of(
+        source
+            .get(token.start as usize..token.end as usize)
+            .unwrap_or(&[]),
+    )
 }
 
 /// The text of a token.
 pub fn terminal_told(alloc: Global, source: &[u8], token: Terminal) -> Result<String, AllocError> {
-    let text = source.get(token.start as usize..token.end as usize);
-    text_told(alloc, text.unwrap_or(&[]))
+    String::from_str(alloc, terminal_text(source, token))
 }
 
-fn token_told(alloc: Global, token: &Token) -> Result<String, AllocError> {
-    let line = if token.new_line { "/" } else { "" };
-    let (kind, start, end) = (token.kind, token.start, token.end);
-    format!(in alloc; "{line}{kind:?} {start}-{end}")
+fn token_told(sheet: &mut Sheet, token: &Token) {
+    sheet.text(if token.new_line { "/" } else { "" });
+    sheet.shown(&token.kind);
+    sheet.text(" ");
+    sheet.plain(&token.start);
+    sheet.text("-");
+    sheet.plain(&token.end);
 }
 
 fn all_told(alloc: Global, tokens: &[Token]) -> Result<String, AllocError> {
-    let mut told = String::new(alloc);
+    let mut sheet = Sheet::new(alloc);
+    let mut between = "";
     for token in tokens {
-        if !told.is_empty() {
-            told.push_str(", ")?;
-        }
-        told.push_str(token_told(alloc, token)?.as_str())?;
+        sheet.text(between);
+        token_told(&mut sheet, token);
+        between = ", ";
     }
-    Ok(told)
+    sheet.whole()
+}
+
+/// The rule that is broken, and the byte.
+fn rule_told(alloc: Global, refusal: &Refusal) -> Result<String, AllocError> {
+    let mut sheet = Sheet::new(alloc);
+    sheet.plain(&refusal.rule);
+    sheet.text(" at ");
+    sheet.plain(&refusal.place.byte);
+    sheet.whole()
 }
 
 /// The tokens, or the rule that is broken and the byte.
@@ -60,10 +83,7 @@ pub fn tokens_told(alloc: Global, source: &[u8]) -> Result<String, AllocError> {
     match tokens(alloc, source) {
         Ok(tokens) => all_told(alloc, &tokens),
         Err(JudgeFault::OutOfMemory) => Err(AllocError),
-        Err(JudgeFault::Refused(refusal)) => {
-            let (rule, byte) = (refusal.rule, refusal.place.byte);
-            format!(in alloc; "{rule} at {byte}")
-        }
+        Err(JudgeFault::Refused(refusal)) => rule_told(alloc, &refusal),
     }
 }
 
@@ -131,8 +151,11 @@ fn read_within(
 /// What is told of the source within its own length, within a byte less, and within the height 1.
 pub fn limits_told(alloc: Global, source: &[u8]) -> Result<String, AllocError> {
     let length = source.len() as u64;
-    let whole = read_within(alloc, source, length, 200)?;
-    let short = read_within(alloc, source, length.saturating_sub(1), 200)?;
-    let low = read_within(alloc, source, length, 1)?;
-    format!(in alloc; "{whole}; within a byte less: {short}; within the height 1: {low}")
+    let mut sheet = Sheet::new(alloc);
+    sheet.made(read_within(alloc, source, length, 200));
+    sheet.text("; within a byte less: ");
+    sheet.made(read_within(alloc, source, length.saturating_sub(1), 200));
+    sheet.text("; within the height 1: ");
+    sheet.made(read_within(alloc, source, length, 1));
+    sheet.whole()
 }

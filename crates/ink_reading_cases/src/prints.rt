@@ -1,11 +1,12 @@
 //! The prints of sources, and prints that are printed again.
 
-use crate::phases::{fault_told, terminal_told, text_told};
+use crate::phases::{fault_told, terminal_text, text_told};
 use ink_base::Limits;
 use ink_grammar::Module;
 use ink_print::{Piece, pieces, print_module};
 use ink_reading::read_module;
 use ink_round::print_source;
+use ink_sheet::Sheet;
 use std::alloc::{AllocError, Global};
 
 /// The print of the source.
@@ -18,23 +19,27 @@ pub fn print_told(alloc: Global, source: &[u8]) -> Result<String, AllocError> {
     text_told(alloc, text.bytes())
 }
 
-fn piece_told(alloc: Global, source: &[u8], piece: Piece) -> Result<String, AllocError> {
+fn piece_told(sheet: &mut Sheet, source: &[u8], piece: Piece) {
     match piece {
-        Piece::Token(token) => terminal_told(alloc, source, token),
-        Piece::Name(token) => format!(in alloc; "name {}", terminal_told(alloc, source, token)?),
-        Piece::Sign(sign) => format!(in alloc; "{sign:?}"),
+        Piece::Token(token) => sheet.text(terminal_text(source, token)),
+        Piece::Name(token) => {
+            sheet.text("name ");
+            sheet.text(terminal_text(source, token));
+        }
+        Piece::Sign(sign) => sheet.shown(&sign),
     }
 }
 
 fn module_pieces(alloc: Global, source: &[u8], module: &Module) -> Result<String, AllocError> {
-    let mut told = String::new(alloc);
-    for piece in &pieces(alloc, module)? {
-        if !told.is_empty() {
-            told.push_str(", ")?;
-        }
-        told.push_str(piece_told(alloc, source, *piece)?.as_str())?;
+    let mut sheet = Sheet::new(alloc);
+    let pieces = pieces(alloc, module)?;
+    let mut between = "";
+    for piece in &pieces {
+        sheet.text(between);
+        piece_told(&mut sheet, source, *piece);
+        between = ", ";
     }
-    Ok(told)
+    sheet.whole()
 }
 
 /// The pieces of the print of the source: tokens by their texts, and signs by their names.
@@ -45,14 +50,12 @@ pub fn pieces_told(alloc: Global, source: &[u8]) -> Result<String, AllocError> {
     }
 }
 
-fn again_told(alloc: Global, print: &[u8]) -> Result<&'static str, AllocError> {
+/// Whether the print is printed as it is.
+fn again_told(alloc: Global, print: &[u8]) -> &'static str {
     match print_source(alloc, print, &Limits::defaults()) {
-        Ok(again) => Ok(if again.is(print) {
-            "and so is the print"
-        } else {
-            "and the print otherwise"
-        }),
-        Err(_) => Ok("and the print is refused"),
+        Ok(again) if again.is(print) => "and so is the print",
+        Ok(_) => "and the print otherwise",
+        Err(_) => "and the print is refused",
     }
 }
 
@@ -60,9 +63,9 @@ fn again_told(alloc: Global, print: &[u8]) -> Result<&'static str, AllocError> {
 pub fn round_told(alloc: Global, source: &[u8]) -> Result<String, AllocError> {
     match print_source(alloc, source, &Limits::defaults()) {
         Ok(text) => {
-            let print = text_told(alloc, text.bytes())?;
-            let again = again_told(alloc, text.bytes())?;
-            format!(in alloc; "{print}{again}")
+            let mut print = text_told(alloc, text.bytes())?;
+            print.push_str(again_told(alloc, text.bytes()))?;
+            Ok(print)
         }
         Err(fault) => fault_told(alloc, fault),
     }

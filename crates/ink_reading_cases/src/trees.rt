@@ -5,7 +5,9 @@ use ink_base::Limits;
 use ink_grammar::{Module, Node, TwoChildren};
 use ink_heights::first_too_high;
 use ink_reading::read_module;
+use ink_sheet::Sheet;
 use std::alloc::{AllocError, Global};
+use std::fmt::Debug;
 
 /// What is told of the node of this number, if it was told before.
 fn child(told: &[String], number: u32) -> &str {
@@ -15,6 +17,34 @@ fn child(told: &[String], number: u32) -> &str {
     }
 }
 
+/// Tells of a form with its children, by what was told of the nodes before.
+fn form<F: Debug>(
+    alloc: Global,
+    form: &F,
+    told: &[String],
+    children: &[u32],
+) -> Result<String, AllocError> {
+    let mut sheet = Sheet::new(alloc);
+    sheet.shown(form);
+    let mut sign = "(";
+    for number in children {
+        sheet.text(sign);
+        sheet.text(child(told, *number));
+        sign = ", ";
+    }
+    sheet.text(")");
+    sheet.whole()
+}
+
+/// A list with one item more.
+fn longer(alloc: Global, told: &[String], list: u32, item: u32) -> Result<String, AllocError> {
+    let mut sheet = Sheet::new(alloc);
+    sheet.text(child(told, list));
+    sheet.text(" ");
+    sheet.text(child(told, item));
+    sheet.whole()
+}
+
 /// A node, by what was told of those before it. A list is its items, with a `.` in front.
 fn node_told(
     alloc: Global,
@@ -22,31 +52,15 @@ fn node_told(
     told: &[String],
     node: Node,
 ) -> Result<String, AllocError> {
-    let of = |number: u32| child(told, number);
     match node {
         Node::Leaf(token) => terminal_told(alloc, source, token),
         Node::Empty => String::from_str(alloc, "."),
-        Node::One(form, _, a) => format!(in alloc; "{form:?}({})", of(a)),
-        Node::Two(TwoChildren::More, _, list, item) => {
-            format!(in alloc; "{} {}", of(list), of(item))
-        }
-        Node::Two(form, _, a, b) => format!(in alloc; "{form:?}({}, {})", of(a), of(b)),
-        Node::Three(form, _, a, b, c) => {
-            format!(in alloc; "{form:?}({}, {}, {})", of(a), of(b), of(c))
-        }
-        Node::Four(form, _, a, b, c, d) => {
-            format!(in alloc; "{form:?}({}, {}, {}, {})", of(a), of(b), of(c), of(d))
-        }
-        Node::Five(form, _, a, b, c, d, e) => {
-            format!(in alloc;
-                "{form:?}({}, {}, {}, {}, {})",
-                of(a),
-                of(b),
-                of(c),
-                of(d),
-                of(e)
-            )
-        }
+        Node::One(name, _, a) => form(alloc, &name, told, &[a]),
+        Node::Two(TwoChildren::More, _, list, item) => longer(alloc, told, list, item),
+        Node::Two(name, _, a, b) => form(alloc, &name, told, &[a, b]),
+        Node::Three(name, _, a, b, c) => form(alloc, &name, told, &[a, b, c]),
+        Node::Four(name, _, a, b, c, d) => form(alloc, &name, told, &[a, b, c, d]),
+        Node::Five(name, _, a, b, c, d, e) => form(alloc, &name, told, &[a, b, c, d, e]),
     }
 }
 
@@ -67,17 +81,30 @@ pub fn tree_told(alloc: Global, source: &[u8]) -> Result<String, AllocError> {
     }
 }
 
+/// Tells the height of the module behind ", over .." for each lesser limit.
 fn module_height(alloc: Global, module: &Module) -> Result<String, AllocError> {
-    let mut over = String::new(alloc);
+    let mut over = Sheet::new(alloc);
+    let mut height: u64 = 200;
     for most in 1..200 {
         match first_too_high(alloc, module, most)? {
-            Some(byte) => over.push_str(format!(in alloc;
-                ", over {most} at byte {byte}"
-            )?.as_str())?,
-            None => return format!(in alloc; "height {most}{over}"),
+            Some(byte) => {
+                over.text(", over ");
+                over.plain(&most);
+                over.text(" at byte ");
+                over.plain(&byte);
+            }
+            None => {
+                height = most;
+                break;
+            }
         }
     }
-    Ok(over)
+    let told = over.whole()?;
+    let mut sheet = Sheet::new(alloc);
+    sheet.text("height ");
+    sheet.plain(&height);
+    sheet.text(told.as_str());
+    sheet.whole()
 }
 
 /// The height of the module, and for each lesser limit the byte of the first node that is too high.
