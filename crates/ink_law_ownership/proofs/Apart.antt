@@ -38,7 +38,7 @@ le_sum f (z ∷ xs) (suc i) x is =
 numbered_le : {X : Type 0} (f : X → ℕ) (xs : List X) (n : ℕ) (x : X) → numbered xs n ≡ Some x → f x ≤ sum_by f xs
 numbered_le f xs n x is = le_sum f xs (n - 1) x (at_place xs n x is).1
 
-there_once : (found : Option Object) → IsSome found → one_if (is_some found) ≡ 1
+pub there_once : (found : Option Object) → IsSome found → one_if (is_some found) ≡ 1
 there_once None there = absurd (cc)
 there_once (Some object) there = refl
 
@@ -73,7 +73,7 @@ future_le id world number (Some state) parcel is held =
     omega arith
 
 module _ (world : World) (apart : StandApart world) (number : ℕ) (p : Process) (stands : numbered world.processes number ≡ Some p) where
-  heap_le : (id : ObjectId) → times_there id p.objects ≤ times_in_heaps id world.processes
+  pub heap_le : (id : ObjectId) → times_there id p.objects ≤ times_in_heaps id world.processes
   heap_le id = numbered_le (λ (q : Process). times_there id q.objects) world.processes number p stands
 
   pub message_apart : (message : Message Parcel) → front_of world.shared.mail number ≡ Some message → AreApartFrom p.objects message.values.objects

@@ -9,6 +9,7 @@ pub mod Replied
 pub mod Right
 pub mod Rows
 pub mod Shared
+pub mod Spawned
 pub mod Steps
 pub mod Trace
 pub mod Turned

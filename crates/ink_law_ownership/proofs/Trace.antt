@@ -13,7 +13,7 @@ use Rattle.ink_code.specs.Process.{Process}
 use Rattle.ink_code.specs.Slice.{steps_on, gone_on, next_on, wish_of, ComesTo}
 use Rattle.ink_code.specs.Step.{free_step}
 use Rattle.ink_code.specs.Trees.{Parcel}
-use Rattle.ink_law_ownership.specs.Leaves.{IsNew, KeepsNames, carried}
+use Rattle.ink_law_ownership.specs.Leaves.{IsNew, IsTree, KeepsNames, Gives, carried}
 use Rattle.ink_law_ownership.proofs.Counts.{none_in_empty}
 use Rattle.ink_law_ownership.proofs.Kept.{idle}
 use Rattle.ink_law_ownership.proofs.Steps.{step-leaves}
@@ -73,7 +73,8 @@ trace (suc steps) code limits p q is =
     }
 
 abbrev Wished : Process → Action Parcel → Process → Type 0
-Wished p wish q = (q.number ≡ p.number) × (q.kind ≡ p.kind) × KeepsNames p q (carried wish)
+Wished p wish q =
+    (q.number ≡ p.number) × (q.kind ≡ p.kind) × KeepsNames p q (carried wish) × Gives (Wants wish) p q
 
 abbrev one_wish : Action Parcel → Process → Option (Action Parcel × Process)
 one_wish wish p = Some (wish, p)
@@ -89,10 +90,10 @@ wished code limits p waiting wish (Err why) made is = absurd (none-some (wish, w
 wished code limits p waiting wish (Ok (Went, q)) made is = absurd (none-some (wish, waiting) is)
 wished code limits p waiting wish (Ok (Wants want, q)) made is =
     let l = step-leaves code limits p q (Wants want) made in
-    wished_as p q waiting wish want is (l.number, l.kind, l.names)
+    wished_as p q waiting wish want is (l.number, l.kind, l.names, l.gives)
 wished code limits p waiting wish (Ok (Panics text, q)) made is =
     let l = step-leaves code limits p q (Panics text) made in
-    wished_as p q waiting wish (action.Panic text) is (l.number, l.kind, record { made = l.names.made; names = l.names.names })
+    wished_as p q waiting wish (action.Panic text) is (l.number, l.kind, record { made = l.names.made; names = l.names.names }, l.gives)
 wished code limits p waiting wish (Ok (Spent steps, q)) made is = absurd (none-some (wish, waiting) is)
 
 -- a process that came to an action
@@ -101,3 +102,12 @@ came code limits p waiting wish c =
     let steps = trace c.steps code limits p c.before c.goes in
     let last = wished code limits c.before waiting wish (free_step code limits c.before.pending c.before) refl c.wants in
     (last.0 ∙ steps.number, last.1 ∙ steps.kind, keeps_then p c.before waiting (carried wish) steps.number steps.names last.2)
+
+tree_of : (kind : ℕ) (parcel : Parcel) (p q : Process) → Gives (Wants (action.Spawn kind parcel)) p q → IsTree parcel
+tree_of kind parcel p q tree = tree
+
+-- and the parcel with which it is to start another
+pub came_tree : (code : Code) (limits : List ℕ) (p waiting : Process) (kind : ℕ) (parcel : Parcel) → ComesTo code limits p (action.Spawn kind parcel) waiting → IsTree parcel
+came_tree code limits p waiting kind parcel c =
+    let last = wished code limits c.before waiting (action.Spawn kind parcel) (free_step code limits c.before.pending c.before) refl c.wants in
+    tree_of kind parcel c.before waiting last.3

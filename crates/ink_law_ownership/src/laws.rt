@@ -1,8 +1,9 @@
 //! The laws. None does anything when it runs.
-ghost use Rattle.std.specs.Prelude.{◌≡◌, ◌≢◌, ℕ, List, Option, Result, IsSome};
+ghost use Rattle.std.specs.Prelude.{◌≡◌, ◌≢◌, ℕ, ◌+◌, List, length, Option, Result, IsSome};
 ghost use Rattle.std.specs.FinMap.{get};
 ghost use Rattle.ink_base.specs.declared.ident.ObjectId.{ObjectId};
 ghost use Rattle.ink_base.specs.declared.value.Value.{Value};
+ghost use Rattle.ink_base.specs.Actions as action;
 ghost use Rattle.ink_base.specs.Messages.{Message, front_of};
 ghost use Rattle.ink_base.specs.Numbered.{numbered};
 ghost use Rattle.ink_base.specs.Objects.{Objects};
@@ -11,7 +12,7 @@ ghost use Rattle.ink_code.specs.Machine.{Stepped};
 ghost use Rattle.ink_code.specs.Process.{Process, next_id, state_name};
 ghost use Rattle.ink_code.specs.Replies.{Reply, answered};
 ghost use Rattle.ink_code.specs.Runs.{World, CodeAhead, CodeReplay, CodeTurn, held_by, with_state};
-ghost use Rattle.ink_code.specs.Slice.{steps_on};
+ghost use Rattle.ink_code.specs.Slice.{ComesTo, steps_on};
 ghost use Rattle.ink_code.specs.Step.{free_step};
 ghost use Rattle.ink_code.specs.Trees.{Parcel, Parted, parted_of};
 ghost use Rattle.ink_law_ownership.specs.Leaves.{IsTree, ReplyLeaves, StepLeaves};
@@ -23,7 +24,8 @@ ghost use Rattle.ink_proc.specs.Starts.{CanStart};
 ///
 /// It keeps its number and its type, and counts each step that is made. No object gets a name that another has: those
 /// that stay and those that go out with an action are the old ones and perhaps a new one, each once. A parcel that goes
-/// out is the tree of its values, in which each object is owned once. At an action with which nothing goes out the process stays as it was.
+/// out is the tree of its values, in which each object is owned once. At an action with which nothing goes out the process stays as it
+/// was.
 pub fn step_leaves()
     ensures { (code : Code) (limits : List ℕ) (p q : Process) (stepped : Stepped) → free_step code limits p.pending p ≡ Result.Ok (stepped, q) → StepLeaves p stepped q }
 {}
@@ -71,4 +73,9 @@ pub fn cuts_are_trees()
 /// A process can start with a tree of which no object has its number: with the state that has the values as its fields.
 pub fn trees_start()
     ensures { (number kind : ℕ) (parcel : Parcel) → IsTree parcel → ((id : ObjectId) → IsSome (get parcel.objects id) → id.process ≢ number) → CanStart number (state_name number) (with_state number kind parcel) }
+{}
+
+/// Where names stand apart, a process that another is to start can start, under the number that is next.
+pub fn spawns_start()
+    ensures { (code : Code) (limits : List ℕ) (world : World) → StandApart world → (number : ℕ) (p waiting : Process) (kind : ℕ) (parcel : Parcel) → numbered world.processes number ≡ Option.Some p → ComesTo code limits p (action.Spawn kind parcel) waiting → CanStart (length world.processes + 1) (state_name (length world.processes + 1)) (with_state (length world.processes + 1) kind parcel) }
 {}
