@@ -8,8 +8,9 @@
 mod devices;
 
 use crate::devices::{CountingSink, Devices, held_file, sink};
-use ink_base::{Journal, OpenGate, Text};
-use ink_top::inko_main;
+use ink_base::{Journal, MemSink, OpenGate, Text};
+use ink_sheet::Sheet;
+use ink_top::{Ended, inko_main};
 use std::alloc::{AllocError, Global};
 use std::rt::Files;
 use std::{fs, io, str};
@@ -36,7 +37,7 @@ const FAILING_ERRORS: Devices = Devices {
 };
 
 /// The files of cases, and the devices of each.
-const CASES: [(&str, Devices); 6] = [
+static CASES: [(&str, Devices); 6] = [
     ("runs", SOUND),
     ("refusals", SOUND),
     ("prints", SOUND),
@@ -55,14 +56,13 @@ fn words_of(alloc: Global, command: &str) -> Result<Vec<Text>, AllocError> {
 }
 
 /// The entries of a journal, with a blank before each.
-fn entries(alloc: Global, journal: &Journal) -> Result<String, AllocError> {
-    let mut entries = String::new(alloc);
+fn entries(sheet: &mut Sheet, journal: &Journal) {
     for index in 0..journal.len() {
         if let Some(entry) = journal.get(index) {
-            entries.push_str(format!(in alloc; " {entry}")?.as_str())?;
+            sheet.text(" ");
+            sheet.plain(&entry);
         }
     }
-    Ok(entries)
 }
 
 /// The characters of what was written.
@@ -70,14 +70,30 @@ fn shown(bytes: &[u8]) -> &str {
     str::from_utf8(bytes).unwrap_or("no UTF-8")
 }
 
+/// How a call ended, and what it wrote.
+fn told(sheet: &mut Sheet, ended: &Ended<CountingSink>, err: &MemSink) {
+    sheet.text("\n  status ");
+    sheet.plain(&ended.status);
+    sheet.text("\n  journal:");
+    entries(sheet, &ended.journal);
+    sheet.text("\n  out, calls ");
+    sheet.plain(&ended.out.calls);
+    sheet.text(": ");
+    sheet.shown(&shown(ended.out.sink.bytes()));
+    sheet.text("\n  err: ");
+    sheet.shown(&shown(err.bytes()));
+    sheet.text("\n");
+}
+
 /// How the call of these words ends, where this file is held.
 fn answer(
     alloc: Global,
+    sheet: &mut Sheet,
     file: &str,
     source: Vec<u8>,
     words: &[Text],
     devices: Devices,
-) -> Result<String, AllocError> {
+) -> Result<(), AllocError> {
     let mut files = held_file(alloc, file, source, devices.is_read)?;
     let out = CountingSink {
         sink: sink(alloc, devices.out_takes)?,
@@ -85,48 +101,52 @@ fn answer(
     };
     let mut err = sink(alloc, devices.err_takes)?;
     let ended = inko_main(alloc, words, &mut files, out, &mut err, &OpenGate);
-    let journal = entries(alloc, &ended.journal)?;
-    format!(in alloc;
-        "  status {}\n  journal:{journal}\n  out, calls {}: {:?}\n  err: {:?}",
-        ended.status,
-        ended.out.calls,
-        shown(ended.out.sink.bytes()),
-        shown(err.bytes())
-    )
+    told(sheet, &ended, &err);
+    Ok(())
 }
 
-/// Prints the line of a case, and how its call ends.
-fn show_case<R: Files + Print + AllocGlobal>(
+/// Tells the line of a case, and how its call ends.
+fn show_case<R: Files + AllocGlobal>(
     rt: &R,
+    sheet: &mut Sheet,
     line: &str,
     devices: Devices,
 ) -> io::Result<()> {
-    let Some((file, command)) = line.split_once(":") else {
-        return println!(rt; "no case: {line}");
-    };
-    let source = fs::read(rt, file)?;
-    let words = words_of(rt.alloc(), command)?;
-    let answer = answer(rt.alloc(), file, source, &words, devices)?;
-    println!(rt; "\n{line}\n{answer}")
+    sheet.text("\n");
+    sheet.text(line);
+    match line.split_once(":") {
+        None => sheet.text(" is no case\n"),
+        Some((file, command)) => {
+            let source = fs::read(rt, file)?;
+            let words = words_of(rt.alloc(), command)?;
+            answer(rt.alloc(), sheet, file, source, &words, devices)?;
+        }
+    }
+    Ok(())
 }
 
-/// Prints the cases of a file.
-fn show_cases<R: Files + Print + AllocGlobal>(
+/// Tells the cases of a file.
+fn show_cases<R: Files + AllocGlobal>(
     rt: &R,
+    sheet: &mut Sheet,
     file: &str,
     devices: Devices,
 ) -> io::Result<()> {
-    println!(rt; "== {file}")?;
     let cases = fs::read_to_string(rt, file)?;
+    sheet.text("== ");
+    sheet.text(file);
+    sheet.text("\n");
     for line in cases.lines() {
-        show_case(rt, line, devices)?;
+        show_case(rt, sheet, line, devices)?;
     }
-    println!(rt; "")
+    sheet.text("\n");
+    Ok(())
 }
 
 fn main(rt: HostRuntime) -> io::Result<()> {
+    let mut sheet = Sheet::new(rt.alloc());
     for (file, devices) in CASES {
-        show_cases(&rt, file, devices)?;
+        show_cases(&rt, &mut sheet, file, devices)?;
     }
-    Ok(())
+    print!(rt; "{}", sheet.whole()?)
 }
