@@ -1,3 +1,4 @@
+pub mod ArrayRows
 pub mod Each
 pub mod ObjectRows
 pub mod ValueRows

@@ -1,5 +1,5 @@
 -- The rows that work on objects are wrong where the table says so of their operands.
-use Rattle.std.proofs.Common.{◌≡◌, ℕ, ℤ, ◌+◌, Bool, true, false, Option, None, Some, Result, Ok, Err, List, [], ◌∷◌, refl, sym, ap, ◌∙◌}
+use Rattle.std.proofs.Common.{◌≡◌, ℕ, ℤ, ◌+◌, true, Some, Result, Ok, Err, List, [], ◌∷◌, ap, ◌∙◌}
 use Rattle.std.specs.Prelude.{◌==◌, ◌-◌, ◌++◌, pos, not, length, slice_get, drop, take}
 use Rattle.ink_base.specs.declared.ident.ObjectId.{ObjectId}
 use Rattle.ink_base.specs.declared.object.Object.{Object}
@@ -9,7 +9,7 @@ use Rattle.ink_base.specs.declared.value.Value.TheVariants as v
 use Rattle.ink_base.specs.declared.limits.Limit.TheVariants as limit
 use Rattle.ink_base.specs.Actions.{reached}
 use Rattle.ink_base.specs.Objects.{Objects}
-use Rattle.ink_base.specs.Rows.{Row, rows}
+use Rattle.ink_base.specs.Rows.{rows}
 use Rattle.ink_code.specs.declared.wrong.Wrong.{Wrong}
 use Rattle.ink_code.specs.declared.wrong.Wrong.TheVariants as wrong
 use Rattle.ink_code.specs.ArrayRows.{unless_cycle, with_items, with_item, item_at, at_item, array_rows, size_row, empty_row, push_row, pop_row, get_row, set_row, swap_row, clear_row}
@@ -22,10 +22,10 @@ use Rattle.ink_code.specs.Process.{Process}
 use Rattle.ink_code.specs.RowNumbers as number
 use Rattle.ink_code.specs.Rows.{RowOutcome, gives, unless_fails, unless_row_full, gives_option, gives_lent, place_in, receives, no_operand, single, pair, int_of}
 use Rattle.ink_law_operands.proofs.Each.{Each, each-row}
-use Rattle.ink_law_operands.specs.Judged.{ObjectRowsJudge, JudgesOperands, IsReceived}
+use Rattle.ink_law_operands.specs.Judged.{ObjectRowsJudge, JudgesOperands}
 use Rattle.ink_law_operands.specs.Taken.{wrong_in, of_slots, taken}
 
-abbrev Further : Type 0
+abbrev pub Further : Type 0
 Further = ObjectId → Object → List Value → Process → RowOutcome
 
 met : {A B : Type 0} (r : Result A Wrong) (a : A) (further : A → Result B Wrong) → r ≡ Ok a → after r further ≡ further a
@@ -33,7 +33,7 @@ unfolding after
 met r a further is = ap (λ r. after r further) is
 
 -- a row with its receiver is what comes behind it
-at_receiver : (kind : ℕ) (further : Further) (id : ObjectId) (operands : List Value) (p : Process) (object : Object) (objects : Objects) → object_at p.objects id ≡ Ok object → (object.kind == kind) ≡ true → after_borrow id p.objects ≡ Ok objects → receives kind (v.Bor id ∷ operands) p further ≡ further id object operands (with_objects objects p)
+pub at_receiver : (kind : ℕ) (further : Further) (id : ObjectId) (operands : List Value) (p : Process) (object : Object) (objects : Objects) → object_at p.objects id ≡ Ok object → (object.kind == kind) ≡ true → after_borrow id p.objects ≡ Ok objects → receives kind (v.Bor id ∷ operands) p further ≡ further id object operands (with_objects objects p)
 unfolding after needs
 at_receiver kind further id operands p object objects is_there is_of_kind is_lent =
     met (object_at p.objects id) object _ is_there
@@ -80,27 +80,27 @@ alone id [] further why told = absurd (cc)
 alone id (x ∷ others) further why told = told
 
 -- what the rows do behind their operands
-abbrev pushes : List ℕ → ObjectId → Object → Process → Value → RowOutcome
+abbrev pub pushes : List ℕ → ObjectId → Object → Process → Value → RowOutcome
 pushes limits id found q value =
     unless_fails (reached limit.Array (length found.fields) limits) q (unless_cycle id value q (gives v.Nil (with_items id (found.fields ++ value ∷ []) q)))
 
-abbrev pops : List ℕ → ObjectId → Object → Process → RowOutcome
+abbrev pub pops : List ℕ → ObjectId → Object → Process → RowOutcome
 pops limits id found q =
     unless_row_full limits q (let last = length found.fields - 1 in gives_option (slice_get found.fields last) (with_items id (take last found.fields) q))
 
-abbrev lends : List ℕ → Object → Process → ℤ → RowOutcome
+abbrev pub lends : List ℕ → Object → Process → ℤ → RowOutcome
 lends limits found q index = unless_row_full limits q (gives_lent (item_at found.fields (place_in index (length found.fields))) q)
 
-abbrev sets : ObjectId → Object → Process → Value × Value → ℤ → RowOutcome
+abbrev pub sets : ObjectId → Object → Process → Value × Value → ℤ → RowOutcome
 sets id found q both index =
     at_item index found.fields q (place_in index (length found.fields)) (λ place old. unless_cycle id both.1 q
     (let written = with_item id place both.1 q in gives v.Nil (record written { pending = old ∷ q.pending })))
 
-abbrev swaps : ObjectId → Object → Process → Value × Value → ℤ → RowOutcome
+abbrev pub swaps : ObjectId → Object → Process → Value × Value → ℤ → RowOutcome
 swaps id found q both index =
     at_item index found.fields q (place_in index (length found.fields)) (λ place old. unless_cycle id both.1 q (gives old (with_item id place both.1 q)))
 
-abbrev clears : ObjectId → Object → Process → RowOutcome
+abbrev pub clears : ObjectId → Object → Process → RowOutcome
 clears id found q = let emptied = with_items id [] q in gives v.Nil (record emptied { pending = found.fields ++ q.pending })
 
 abbrev lends_option : List ℕ → Object → Process → RowOutcome

@@ -1,21 +1,21 @@
 -- The rows that only compute are wrong where the table says so.
 use Rattle.std.proofs.Common.{◌≡◌, ℕ, ◌+◌, ℤ, Bool, true, false, Option, None, Some, Result, Ok, Err, List, [], ◌∷◌, refl}
-use Rattle.std.specs.Prelude.{if◌then◌else◌, pos, ◌+ℤ◌, ◌-ℤ◌, ◌*ℤ◌, drop, take, not}
-use Rattle.std.specs.Int.{int_bit_and, int_bit_or, int_bit_xor, int_shl, int_shr}
+use Rattle.std.specs.Prelude.{if◌then◌else◌, pos, ◌+ℤ◌, ◌-ℤ◌, ◌*ℤ◌, drop, take}
+use Rattle.std.specs.Int.{int_shl, int_shr}
 use Rattle.std.specs.Ordering.{int_eq}
 use Rattle.ink_base.specs.declared.row.Slot.TheVariants as slot
 use Rattle.ink_base.specs.declared.value.Value.{Value}
 use Rattle.ink_base.specs.declared.value.Value.TheVariants as v
 use Rattle.ink_base.specs.Panics.{overflow_text, division_text}
-use Rattle.ink_base.specs.Rows.{Row, rows}
+use Rattle.ink_base.specs.Rows.{rows}
 use Rattle.ink_code.specs.declared.wrong.Wrong.{Wrong}
 use Rattle.ink_code.specs.BoolRows.{of_truths, bool_rows, same_row, other_row, false_row, bool_to_string_row}
-use Rattle.ink_code.specs.IntRows.{of_ints, int_rows, int_row, divided_row, test_row, bits_row, shift_row, shift_by, shift_of, floor_quotient, floor_rest, int_to_string_row, add_row, subtract_row, multiply_row, divide_row, rest_row, equal_row, unequal_row, less_row, at_most_row, greater_row, at_least_row, bit_and_row, bit_or_row, bit_xor_row, shift_up_row, shift_down_row}
+use Rattle.ink_code.specs.IntRows.{of_ints, int_rows, divided_row, shift_by, shift_of, floor_quotient, floor_rest, int_to_string_row, add_row, subtract_row, multiply_row, divide_row, rest_row, equal_row, unequal_row, less_row, at_most_row, greater_row, at_least_row, bit_and_row, bit_or_row, bit_xor_row, shift_up_row, shift_down_row}
 use Rattle.ink_code.specs.Machine.{after}
 use Rattle.ink_code.specs.Moves.{text_of, truth_of}
 use Rattle.ink_code.specs.Prims.{value_rows}
 use Rattle.ink_code.specs.RowNumbers as number
-use Rattle.ink_code.specs.Rows.{Computation, computes, raises, single, pair, int_of, int_or_overflow, is_int}
+use Rattle.ink_code.specs.Rows.{Computation, computes, raises, single, int_of, int_or_overflow, is_int}
 use Rattle.ink_code.specs.TextRows.{of_text, of_texts, text_rows, join_row, joins_unless, same_text_row, other_text_row, text_size_row, text_empty_row, byte_row, byte_at, starts_with_row, text_to_string_row}
 use Rattle.ink_law_operands.proofs.Each.{Each, each-row}
 use Rattle.ink_law_operands.specs.Judged.{ValueRowsJudge, JudgesValues}

@@ -1,5 +1,5 @@
 -- The law on the operands of rows.
-use Rattle.std.specs.Prelude.{◌≡◌, ℕ, ◌+◌, ◌==◌, true, Some, Ok, List, ◌∷◌, drop, take}
+use Rattle.std.specs.Prelude.{◌≡◌, ℕ, ◌+◌, ◌==◌, true, None, Some, Ok, List, [], ◌∷◌, drop, take}
 use Rattle.std.specs.List.{slice_get}
 use Rattle.ink_base.specs.declared.ident.ObjectId.{ObjectId}
 use Rattle.ink_base.specs.declared.object.Object.{Object}
@@ -53,3 +53,16 @@ JudgesOperands number row =
 abbrev pub ObjectRowsJudge : Type 0
 ObjectRowsJudge =
     (index : ℕ) (row : Row) → slice_get (drop number.first_of_array (take (number.option_as_mut + 1) rows)) index ≡ Some row → JudgesOperands (number.first_of_array + index) row
+
+-- the row of that number isn't wrong where its operands are those of the table, and the object has no fields
+abbrev pub TakesOperands : ℕ → Row → Type 0
+TakesOperands number row =
+    (code : Code) (limits : List ℕ) (id : ObjectId) (operands : List Value) (p : Process) (received : IsReceived row id p)
+    → received.object.fields ≡ []
+    → wrong_in (taken row.operands operands) ≡ None
+    → wrong_in (row_step code limits number (on_object row.mode id operands) p) ≡ None
+
+-- that holds of each row of Array
+abbrev pub ArrayRowsTake : Type 0
+ArrayRowsTake =
+    (index : ℕ) (row : Row) → slice_get (drop number.first_of_array (take number.first_of_option rows)) index ≡ Some row → TakesOperands (number.first_of_array + index) row

@@ -53,8 +53,13 @@ pub fn pieces_told(alloc: Global, source: &[u8]) -> Result<String, AllocError> {
 /// Whether the print is printed as it is.
 fn again_told(alloc: Global, print: &[u8]) -> &'static str {
     match print_source(alloc, print, &Limits::defaults()) {
-        Ok(again) if again.is(print) => "and so is the print",
-        Ok(_) => "and the print otherwise",
+        Ok(again) => {
+            if again.is(print) {
+                "and so is the print"
+            } else {
+                "and the print otherwise"
+            }
+        }
         Err(_) => "and the print is refused",
     }
 }

@@ -9,8 +9,9 @@ mod devices;
 
 use crate::devices::{CaseFiles, CountingSink, Devices, Plan, Reading, sink};
 use ink_base::{Journal, Text};
-use ink_devices::OpenGate;
-use ink_top::inko_main;
+use ink_devices::{MemSink, OpenGate};
+use ink_sheet::Sheet;
+use ink_top::{Ended, inko_main};
 use std::alloc::{AllocError, Global};
 use std::rt::Files;
 use std::{fs, io, str};
@@ -39,87 +40,31 @@ const CUT_FOR_GOOD: Plan = Plan {
     failing: &[2, 3],
 };
 
+/// Devices of a reading and of the plans of both sinks.
+const fn devices(reading: Reading, out: Plan, err: Plan) -> Devices {
+    Devices { reading, out, err }
+}
+
 /// The files of cases, and the devices of each.
-const CASES: [(&str, Devices); 10] = [
-    (
-        "runs",
-        Devices {
-            reading: Reading::Bytes,
-            out: SOUND,
-            err: SOUND,
-        },
-    ),
-    (
-        "refusals",
-        Devices {
-            reading: Reading::Bytes,
-            out: SOUND,
-            err: SOUND,
-        },
-    ),
-    (
-        "prints",
-        Devices {
-            reading: Reading::Bytes,
-            out: SOUND,
-            err: SOUND,
-        },
-    ),
-    (
-        "wrong_words",
-        Devices {
-            reading: Reading::Bytes,
-            out: SOUND,
-            err: SOUND,
-        },
-    ),
-    (
-        "failing_output",
-        Devices {
-            reading: Reading::Bytes,
-            out: CUT_EARLY,
-            err: SOUND,
-        },
-    ),
+static CASES: [(&str, Devices); 10] = [
+    ("runs", devices(Reading::Bytes, SOUND, SOUND)),
+    ("refusals", devices(Reading::Bytes, SOUND, SOUND)),
+    ("prints", devices(Reading::Bytes, SOUND, SOUND)),
+    ("wrong_words", devices(Reading::Bytes, SOUND, SOUND)),
+    ("failing_output", devices(Reading::Bytes, CUT_EARLY, SOUND)),
     (
         "failing_output_untold",
-        Devices {
-            reading: Reading::Bytes,
-            out: CUT_EARLY,
-            err: CUT_LATE,
-        },
+        devices(Reading::Bytes, CUT_EARLY, CUT_LATE),
     ),
-    (
-        "failing_errors",
-        Devices {
-            reading: Reading::Fault,
-            out: SOUND,
-            err: CUT_LATE,
-        },
-    ),
+    ("failing_errors", devices(Reading::Fault, SOUND, CUT_LATE)),
     (
         "failing_errors_for_good",
-        Devices {
-            reading: Reading::Fault,
-            out: SOUND,
-            err: CUT_FOR_GOOD,
-        },
+        devices(Reading::Fault, SOUND, CUT_FOR_GOOD),
     ),
-    (
-        "no_memory",
-        Devices {
-            reading: Reading::NoMemory,
-            out: SOUND,
-            err: SOUND,
-        },
-    ),
+    ("no_memory", devices(Reading::NoMemory, SOUND, SOUND)),
     (
         "no_memory_untold",
-        Devices {
-            reading: Reading::NoMemory,
-            out: SOUND,
-            err: CUT_EARLY,
-        },
+        devices(Reading::NoMemory, SOUND, CUT_EARLY),
     ),
 ];
 
@@ -133,14 +78,13 @@ fn words_of(alloc: Global, command: &str) -> Result<Vec<Text>, AllocError> {
 }
 
 /// The entries of a journal, with a blank before each.
-fn entries(alloc: Global, journal: &Journal) -> Result<String, AllocError> {
-    let mut entries = String::new(alloc);
+fn entries(sheet: &mut Sheet, journal: &Journal) {
     for index in 0..journal.len() {
         if let Some(entry) = journal.get(index) {
-            entries.push_str(format!(in alloc; " {entry}")?.as_str())?;
+            sheet.text(" ");
+            sheet.plain(&entry);
         }
     }
-    Ok(entries)
 }
 
 /// The characters of what was written.
@@ -148,14 +92,30 @@ fn shown(bytes: &[u8]) -> &str {
     str::from_utf8(bytes).unwrap_or("no UTF-8")
 }
 
+/// How a call ended, and what it wrote.
+fn told(sheet: &mut Sheet, ended: &Ended<CountingSink>, err: &MemSink) {
+    sheet.text("\n  status ");
+    sheet.plain(&ended.status);
+    sheet.text("\n  journal:");
+    entries(sheet, &ended.journal);
+    sheet.text("\n  out, calls ");
+    sheet.plain(&ended.out.calls);
+    sheet.text(": ");
+    sheet.shown(&shown(ended.out.sink.bytes()));
+    sheet.text("\n  err: ");
+    sheet.shown(&shown(err.bytes()));
+    sheet.text("\n");
+}
+
 /// How the call of these words ends, where this file is held.
 fn answer(
     alloc: Global,
+    sheet: &mut Sheet,
     file: &str,
     source: Vec<u8>,
     words: &[Text],
     devices: Devices,
-) -> Result<String, AllocError> {
+) -> Result<(), AllocError> {
     let mut files = CaseFiles::with_file(alloc, file, source, devices.reading)?;
     let out = CountingSink {
         sink: sink(alloc, devices.out)?,
@@ -163,48 +123,52 @@ fn answer(
     };
     let mut err = sink(alloc, devices.err)?;
     let ended = inko_main(alloc, words, &mut files, out, &mut err, &OpenGate);
-    let journal = entries(alloc, &ended.journal)?;
-    format!(in alloc;
-        "  status {}\n  journal:{journal}\n  out, calls {}: {:?}\n  err: {:?}",
-        ended.status,
-        ended.out.calls,
-        shown(ended.out.sink.bytes()),
-        shown(err.bytes())
-    )
+    told(sheet, &ended, &err);
+    Ok(())
 }
 
-/// Prints the line of a case, and how its call ends.
-fn show_case<R: Files + Print + AllocGlobal>(
+/// Tells the line of a case, and how its call ends.
+fn show_case<R: Files + AllocGlobal>(
     rt: &R,
+    sheet: &mut Sheet,
     line: &str,
     devices: Devices,
 ) -> io::Result<()> {
-    let Some((file, command)) = line.split_once(":") else {
-        return println!(rt; "no case: {line}");
-    };
-    let source = fs::read(rt, file)?;
-    let words = words_of(rt.alloc(), command)?;
-    let answer = answer(rt.alloc(), file, source, &words, devices)?;
-    println!(rt; "\n{line}\n{answer}")
+    sheet.text("\n");
+    sheet.text(line);
+    match line.split_once(":") {
+        None => sheet.text(" is no case\n"),
+        Some((file, command)) => {
+            let source = fs::read(rt, file)?;
+            let words = words_of(rt.alloc(), command)?;
+            answer(rt.alloc(), sheet, file, source, &words, devices)?;
+        }
+    }
+    Ok(())
 }
 
-/// Prints the cases of a file.
-fn show_cases<R: Files + Print + AllocGlobal>(
+/// Tells the cases of a file.
+fn show_cases<R: Files + AllocGlobal>(
     rt: &R,
+    sheet: &mut Sheet,
     file: &str,
     devices: Devices,
 ) -> io::Result<()> {
-    println!(rt; "== {file}")?;
     let cases = fs::read_to_string(rt, file)?;
+    sheet.text("== ");
+    sheet.text(file);
+    sheet.text("\n");
     for line in cases.lines() {
-        show_case(rt, line, devices)?;
+        show_case(rt, sheet, line, devices)?;
     }
-    println!(rt; "")
+    sheet.text("\n");
+    Ok(())
 }
 
 fn main(rt: HostRuntime) -> io::Result<()> {
+    let mut sheet = Sheet::new(rt.alloc());
     for (file, devices) in CASES {
-        show_cases(&rt, file, devices)?;
+        show_cases(&rt, &mut sheet, file, devices)?;
     }
-    Ok(())
+    print!(rt; "{}", sheet.whole()?)
 }
