@@ -4,6 +4,7 @@ pub mod CutTree
 pub mod Instructions
 pub mod Kept
 pub mod Left
+pub mod Lengths
 pub mod Numbers
 pub mod Replied
 pub mod Right

@@ -79,3 +79,8 @@ pub fn trees_start()
 pub fn spawns_start()
     ensures { (code : Code) (limits : List ℕ) (world : World) → StandApart world → (number : ℕ) (p waiting : Process) (kind : ℕ) (parcel : Parcel) → numbered world.processes number ≡ Option.Some p → ComesTo code limits p (action.Spawn kind parcel) waiting → CanStart (length world.processes + 1) (state_name (length world.processes + 1)) (with_state (length world.processes + 1) kind parcel) }
 {}
+
+/// In each run there is a mailbox for each process, so that the number which a spawn answers is the new process's.
+pub fn each_process_has_mail()
+    ensures { (code : Code) (limits journal : List ℕ) (world : World) → CodeAhead code limits journal world → length world.shared.mail ≡ length world.processes }
+{}

@@ -7,6 +7,6 @@
 mod laws;
 
 pub use laws::{
-    cuts_are_trees, names_stand_apart, replies_bring_other_names, reply_leaves, spawns_start,
-    step_leaves, steps_are_counted, trees_start, turn_keeps_apart,
+    cuts_are_trees, each_process_has_mail, names_stand_apart, replies_bring_other_names,
+    reply_leaves, spawns_start, step_leaves, steps_are_counted, trees_start, turn_keeps_apart,
 };
