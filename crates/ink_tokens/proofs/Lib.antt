@@ -1,10 +1,10 @@
 pub mod AnswerLemmas
 pub mod Choices
 pub mod MatchLemmas
+pub mod FilterLemmas
 pub mod LengthLemmas
 pub mod LexesLemmas
 pub mod NumberLemmas
-pub mod PairLemmas
 pub mod PartLemmas
 pub mod SoundLemmas
 pub mod SpellingLemmas

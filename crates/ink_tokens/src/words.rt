@@ -93,7 +93,7 @@ fn ends_pair(byte: u8) -> bool
 }
 
 /// Whether the text is a symbol of two bytes.
-#[tactic(auto, unfolding(crate::specs::Words::is_pair), using(crate::proofs::PairLemmas::no_pair))]
+#[tactic(auto, unfolding(crate::specs::Words::is_pair), using(crate::proofs::FilterLemmas::no_pair))]
 fn is_pair(text: &[u8]) -> bool
     ensures { result ≡ is_pair text.now }
 {
@@ -114,10 +114,17 @@ fn is_single(byte: u8) -> bool
 }
 
 /// Whether the text is a word that the language keeps for itself.
-#[tactic(auto, unfolding(crate::specs::Words::is_keyword))]
+#[tactic(auto, unfolding(crate::specs::Words::is_keyword), using(crate::proofs::FilterLemmas::no_short_keyword, crate::proofs::FilterLemmas::no_long_keyword))]
 pub(crate) fn is_keyword(text: &[u8]) -> bool
     ensures { result ≡ is_keyword text.now }
 {
+    // Most names are told apart by their length, before each word is compared.
+    if text.len() < 2 {
+        return false;
+    }
+    if text.len() > 7 {
+        return false;
+    }
     KEYWORDS.contains(&text)
 }
 
