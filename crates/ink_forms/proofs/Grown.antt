@@ -38,7 +38,7 @@ get_past [] k h = refl
 get_past (x ∷ xs) zero h = let bad : ⊥ = omega arith in absurd bad
 get_past (x ∷ xs) (suc k) h = get_past xs k (omega arith)
 
-map_same : {A B : Type 0} (f g : A → B) (P : A → Type 0) → ((a : A) → P a → f a ≡ g a) → (xs : List A) → AllByRecursion P xs → map f xs ≡ map g xs
+pub map_same : {A B : Type 0} (f g : A → B) (P : A → Type 0) → ((a : A) → P a → f a ≡ g a) → (xs : List A) → AllByRecursion P xs → map f xs ≡ map g xs
 map_same f g P h [] q = refl
 map_same f g P h (x ∷ xs) q = ap (λ y. y ∷ map f xs) (h x q.0) ∙ ap (λ ys. g x ∷ ys) (map_same f g P h xs q.1)
 

@@ -3,3 +3,5 @@ pub mod Readers
 pub mod Lists
 pub mod Fitting
 pub mod Runs
+pub mod Kept
+pub mod Ordered

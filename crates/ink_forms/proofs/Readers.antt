@@ -71,6 +71,10 @@ module _ (ls : Lists) (xs : List Node) (n : ℕ) (fit : AreFit ls xs) where
   method_of None e = ap (method_or (items ls xs) n) (item_past ls xs n e)
   method_of (Some x) e = ap (method_or (items ls xs) n) (item_at ls xs n x fit e) ∙ method_in ls (items ls xs) n x.start x.place x.form
 
+pub term_of_node : (ls : Lists) (xs : List Node) (n : ℕ) → AreFit ls xs →
+    (r : ExprNode) × (term_at (items ls xs) n ≡ grow_term ls (items ls xs) (spot n r.start r.place) r.expr)
+term_of_node ls xs n fit = (read.expr_of (slice_get xs n), term_of ls xs n fit (slice_get xs n) refl)
+
 module _ (ls : Lists) (xs : List Node) (n : ℕ) (fit : AreFit ls xs) (ys : List Node) (same : ys ≡ xs) where
   at : (o : Option Node) → o ≡ slice_get ys n → slice_get xs n ≡ o
   at o e = sym (ap (λ zs. slice_get zs n) same) ∙ sym e

@@ -7,4 +7,5 @@ pub mod Views
 pub mod Numbers
 pub mod Runs
 pub mod Work
+pub mod Order
 pub mod Modules

@@ -12,6 +12,7 @@ mod expr;
 mod list;
 mod method;
 mod node;
+mod order;
 mod pattern;
 mod read;
 mod word;
@@ -26,6 +27,7 @@ pub use expr::{Argument, Arm, Binding, Choice, Expr, ExprId, Operator, Selector}
 pub use list::Children;
 pub use method::{Method, MethodId, Mode, Parameter, ParameterId};
 pub use node::{ExprNode, Form, MethodNode, Node, ParameterNode, PatternNode, WrittenNode};
+pub use order::{Part, Step, early_steps, late_steps};
 pub use pattern::{FieldPattern, Pattern, PatternId};
 pub use word::{Identifier, IntegerId, Literal, Made, NameId, TextId};
 pub use written::{Prefix, WrittenType, WrittenTypeId};
