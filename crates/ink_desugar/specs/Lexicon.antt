@@ -37,6 +37,10 @@ no_word = 4294967295
 abbrev pub name : Surface → Terminal → ℕ
 name x token = unwrap_or (spellings.number_of x.words.now.names (name_spelling x.source.now token.shape token)) no_word
 
+-- the number of a spelling
+abbrev pub number_of : Surface → List ℕ → ℕ
+number_of x bytes = unwrap_or (spellings.number_of x.words.now.names bytes) no_word
+
 -- a name, and where it is written
 abbrev pub identifier : Surface → Terminal → Identifier
 identifier x token = record { name = name x token; place = token.start }

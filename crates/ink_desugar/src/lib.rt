@@ -6,10 +6,16 @@
 //! `panic`, `Some`, `None`, `Ok` and `Error` tells more.
 #![tactic(auto)]
 
+mod choices;
 mod depth;
+mod lists;
+mod nodes;
 mod patterns;
 mod surface;
+mod texts;
 mod trees;
+mod types;
+mod values;
 mod words;
 
 pub use words::Words;

@@ -1,14 +1,13 @@
 //! Patterns.
-ghost use Rattle.std.specs.Prelude.{◌≡◌, ◌+◌, IfOk};
+ghost use Rattle.std.specs.Prelude.{◌≡◌, ◌+◌, ◌≤◌, ◌<◌, IfOk};
 ghost use Rattle.ink_grammar.specs.Views.{tree_at};
 ghost use Rattle.ink_forms.specs.Views as view;
-ghost use Rattle.ink_desugar.specs.Makes.{IsPat, ArePats, AreFieldPats};
+ghost use Rattle.ink_desugar.specs.Makes.{IsPat};
 ghost use Rattle.ink_desugar.specs.Patterns as table;
-ghost use Rattle.ink_forms.specs.Trees as core;
 
 use crate::surface::Surface;
 use crate::depth::deeper;
-use crate::trees::{items_of, start_of, token_of};
+use crate::trees::{alternatives_of, items_of, parts_of_field, start_of, token_of};
 use crate::words::{empty_literal, identifier, integer_literal, made_of, name, text_literal};
 use ink_forms::{Arena, Children, FieldPattern, Literal, Made, Pattern, PatternId};
 use ink_grammar::{FourChildren, Keyword, Node, Shape, Terminal, ThreeChildren, TwoChildren};
@@ -20,6 +19,8 @@ fn push_here(arena: &mut Arena, start: u32, pattern: Pattern) -> Result<PatternI
     ensures number { IfOk result (λ n. n ≡ view.count arena.old) }
     ensures made { IfOk result (λ n. view.pat arena.new n ≡ view.pattern_tree arena.old n start start pattern) }
     ensures count { IfOk result (λ n. view.count arena.new ≡ view.count arena.old + 1) }
+    ensures below { IfOk result (λ n. n < view.count arena.new) }
+    ensures grows { view.count arena.old ≤ view.count arena.new }
     ensures keeps { view.Keeps arena.old arena.new }
 {
     arena.push_pattern(start, start, pattern)
@@ -33,6 +34,8 @@ fn leaf_pattern(
     token: Terminal,
 ) -> Result<PatternId, AllocError>
     ensures made { IfOk result (IsPat (table.leaf_pattern surface.now token.shape token) arena.old arena.new) }
+    ensures below { IfOk result (λ n. n < view.count arena.new) }
+    ensures grows { view.count arena.old ≤ view.count arena.new }
     ensures keeps { view.Keeps arena.old arena.new }
 {
     let start = token.start;
@@ -80,22 +83,20 @@ fn whole_text(surface: &Surface, list: u32) -> Result<Literal, AllocError>
     }
 }
 
-/// The patterns of a list.
+/// The patterns of these nodes.
 #[cycle(patterns)]
-#[tactic(auto, using(crate::proofs::Kept::keeps_on, crate::proofs::Kept::pat_kept), unfolding(crate::specs::Patterns::pattern, ink_forms::specs::Numbers::number_pat))]
 fn patterns(
     surface: &Surface,
     arena: &mut Arena,
     depth: u32,
-    list: u32,
+    items: &[u32],
 ) -> Result<Children, AllocError>
-    ensures made { IfOk result (ArePats (table.patterns_onto surface.now (tree_at surface.now.module.now list) core.NoPat) arena.old arena.new) }
-    ensures keeps { view.Keeps arena.old arena.new }
+    ensures before { IfOk result (λ children. view.AreBefore arena.new (view.count arena.new) children) }
+    ensures grows { view.count arena.old ≤ view.count arena.new }
 {
     let left = deeper(depth)?;
-    let items = items_of(surface.alloc, surface.module, list)?;
     let mut numbers = Vec::new(surface.alloc);
-    for item in &items {
+    for item in items {
         let number = pattern(surface, arena, left, *item)?;
         numbers.push(number)?;
     }
@@ -103,58 +104,113 @@ fn patterns(
     Ok(children)
 }
 
-/// A pattern of two.
+/// The field patterns of these nodes. An item that is none has no field.
 #[cycle(patterns)]
-#[tactic(auto, using(crate::proofs::Kept::keeps_on, crate::proofs::Kept::pat_kept), unfolding(crate::specs::Patterns::pattern, ink_forms::specs::Numbers::number_pat))]
-fn pair(
+fn field_patterns(
+    surface: &Surface,
+    arena: &mut Arena,
+    depth: u32,
+    items: &[u32],
+) -> Result<Children, AllocError>
+    ensures before { IfOk result (λ children. view.AreFieldsBefore arena.new (view.count arena.new) children) }
+    ensures grows { view.count arena.old ≤ view.count arena.new }
+{
+    let left = deeper(depth)?;
+    let mut fields = Vec::new(surface.alloc);
+    for item in items {
+        let (named, part) = parts_of_field(surface.module, *item);
+        let pattern = pattern(surface, arena, left, part)?;
+        let field = identifier(surface, token_of(surface.module, named));
+        fields.push(FieldPattern { field, pattern })?;
+    }
+    let children = arena.add_fields(&fields)?;
+    Ok(children)
+}
+
+/// A constructor or tuple with these parts.
+#[cycle(patterns)]
+fn constructor(
     surface: &Surface,
     arena: &mut Arena,
     depth: u32,
     start: u32,
+    made: Made,
+    items: &[u32],
+) -> Result<PatternId, AllocError>
+    ensures below { IfOk result (λ n. n < view.count arena.new) }
+    ensures grows { view.count arena.old ≤ view.count arena.new }
+{
+    let left = deeper(depth)?;
+    let parts = patterns(surface, arena, left, items)?;
+    push_here(arena, start, Pattern::Constructor { made, parts })
+}
+
+/// A pattern of two nodes with a list or alternatives.
+#[cycle(patterns)]
+fn pattern_of_two(
+    surface: &Surface,
+    arena: &mut Arena,
+    depth: u32,
+    form: TwoChildren,
+    start: u32,
     a: u32,
     b: u32,
 ) -> Result<PatternId, AllocError>
-    ensures made { IfOk result (IsPat (table.pair surface.now start (tree_at surface.now.module.now a) (tree_at surface.now.module.now b)) arena.old arena.new) }
-    ensures keeps { view.Keeps arena.old arena.new }
+    ensures below { IfOk result (λ n. n < view.count arena.new) }
+    ensures grows { view.count arena.old ≤ view.count arena.new }
 {
     let left = deeper(depth)?;
-    let first = pattern(surface, arena, left, a)?;
-    let second = pattern(surface, arena, left, b)?;
-    let parts = arena.add_list(&[first, second])?;
-    let made = Made::Tuple2;
-    push_here(arena, start, Pattern::Constructor { made, parts })
+    match form {
+        TwoChildren::MutableName => {
+            let name = name(surface, token_of(surface.module, b));
+            push_here(arena, start, Pattern::Name { is_mutable: true, name })
+        }
+        TwoChildren::ConstructorPattern => {
+            let items = items_of(surface.alloc, surface.module, b)?;
+            let made = made_of(surface, token_of(surface.module, a));
+            constructor(surface, arena, left, start, made, &items)
+        }
+        TwoChildren::FieldPatterns => {
+            let items = items_of(surface.alloc, surface.module, b)?;
+            let fields = field_patterns(surface, arena, left, &items)?;
+            push_here(arena, start, Pattern::Fields { fields })
+        }
+        TwoChildren::Either => {
+            let mut items = alternatives_of(surface.alloc, surface.module, a)?;
+            items.push(b)?;
+            let alternatives = patterns(surface, arena, left, &items)?;
+            push_here(arena, start, Pattern::Either { alternatives })
+        }
+        TwoChildren::Text => {
+            let literal = whole_text(surface, b)?;
+            push_here(arena, start, Pattern::Lit { literal })
+        }
+        _ => push_here(arena, start, Pattern::Wildcard),
+    }
 }
 
 /// The pattern of a node.
 #[cycle(patterns)]
-#[tactic(auto, using(crate::proofs::Kept::keeps_on, crate::proofs::Kept::pat_kept), unfolding(crate::specs::Patterns::pattern, ink_forms::specs::Numbers::number_pat))]
 pub(crate) fn pattern(
     surface: &Surface,
     arena: &mut Arena,
     depth: u32,
     number: u32,
 ) -> Result<PatternId, AllocError>
-    ensures made { IfOk result (IsPat (table.pattern surface.now (tree_at surface.now.module.now number)) arena.old arena.new) }
-    ensures keeps { view.Keeps arena.old arena.new }
+    ensures below { IfOk result (λ n. n < view.count arena.new) }
+    ensures grows { view.count arena.old ≤ view.count arena.new }
 {
     let left = deeper(depth)?;
     match surface.module.node(number) {
         Some(Node::Leaf(token)) => leaf_pattern(surface, arena, token),
-        Some(Node::Two(TwoChildren::MutableName, start, _, named)) => {
-            let name = name(surface, token_of(surface.module, named));
-            push_here(arena, start, Pattern::Name { is_mutable: true, name })
-        }
-        Some(Node::Two(TwoChildren::ConstructorPattern, start, named, list)) => {
-            let made = made_of(surface, token_of(surface.module, named));
-            let parts = patterns(surface, arena, left, list)?;
-            push_here(arena, start, Pattern::Constructor { made, parts })
-        }
-        Some(Node::Two(TwoChildren::Text, start, _, list)) => {
-            let literal = whole_text(surface, list)?;
-            push_here(arena, start, Pattern::Lit { literal })
+        Some(Node::Two(form, start, a, b)) => {
+            pattern_of_two(surface, arena, left, form, start, a, b)
         }
         Some(Node::Three(ThreeChildren::PairPattern, start, _, a, b)) => {
-            pair(surface, arena, left, start, a, b)
+            constructor(surface, arena, left, start, Made::Tuple2, &[a, b])
+        }
+        Some(Node::Four(FourChildren::TriplePattern, start, _, a, b, c)) => {
+            constructor(surface, arena, left, start, Made::Tuple3, &[a, b, c])
         }
         _ => {
             let start = start_of(surface.module, number);

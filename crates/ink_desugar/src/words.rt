@@ -1,11 +1,13 @@
 //! The words of a module by their numbers, and what a token says by its spelling.
-ghost use Rattle.std.specs.Prelude.{◌≡◌, IfOk};
+ghost use Rattle.std.specs.Prelude.{◌≡◌, codes, IfOk};
 ghost use Rattle.std.specs.Str.{bytes_eq};
 ghost use Rattle.ink_desugar.specs.Lexicon as spec;
 
 use crate::surface::Surface;
-use ink_forms::{Identifier, Literal, Made};
-use ink_grammar::{Shape, Terminal};
+use crate::trees::{is_written, token_of};
+use ink_base::BorrowKind;
+use ink_forms::{Binding, Identifier, Literal, Made, Operator};
+use ink_grammar::{Keyword, Shape, Terminal};
 use ink_tables::{Integers, NameId, Names, TextId, Texts, integer_value, unescaped_part};
 use std::alloc::AllocError;
 
@@ -79,7 +81,7 @@ pub(crate) fn identifier(surface: &Surface, token: Terminal) -> Identifier
 }
 
 /// The number of a written integer.
-fn integer(surface: &Surface, token: Terminal) -> u32
+pub(crate) fn integer(surface: &Surface, token: Terminal) -> u32
     ensures { result ≡ spec.integer surface.now token }
 {
     let value = integer_value(spelling(surface.source, token));
@@ -145,4 +147,100 @@ pub(crate) fn made_of(surface: &Surface, token: Terminal) -> Made
     } else {
         Made::Named(name(surface, token))
     }
+}
+
+/// Whether a name is `panic`.
+pub(crate) fn is_panic(surface: &Surface, token: Terminal) -> bool
+    ensures { result ≡ bytes_eq (spec.spelling surface.now.source.now token) (codes "panic") }
+{
+    is(spelling(surface.source, token), b"panic")
+}
+
+/// The number of a spelling.
+fn number_of(surface: &Surface, spelling: &[u8]) -> NameId
+    ensures { result ≡ spec.number_of surface.now spelling.now }
+{
+    match surface.words.names.find(spelling) {
+        Some(number) => number,
+        None => NO_WORD,
+    }
+}
+
+/// The name of the variable that `try` adds, which no source can give to one.
+pub(crate) fn try_name(surface: &Surface) -> NameId
+    ensures { result ≡ spec.number_of surface.now (codes "try") }
+{
+    number_of(surface, b"try")
+}
+
+/// The name of the method that embedded expressions are asked for.
+pub(crate) fn to_string_name(surface: &Surface) -> NameId
+    ensures { result ≡ spec.number_of surface.now (codes "to_string") }
+{
+    number_of(surface, b"to_string")
+}
+
+/// The type that a link stands behind, where it is static: a name with a capital letter that is no constructor.
+pub(crate) fn owner_of(surface: &Surface, base: u32) -> Option<NameId> {
+    let token = token_of(surface.module, base);
+    if !matches!(token.shape, Shape::Constant) {
+        return None;
+    }
+    match made_of(surface, token) {
+        Made::Named(name) => Some(name),
+        _ => None,
+    }
+}
+
+/// The kind of a borrow, by its word.
+pub(crate) fn borrow_kind(shape: Shape) -> BorrowKind {
+    match shape {
+        Shape::Keyword(Keyword::Mut) => BorrowKind::Mut,
+        _ => BorrowKind::Ref,
+    }
+}
+
+/// What a `let` declares, by its `mut` and its name.
+pub(crate) fn binding_of(surface: &Surface, mutable: u32, named: u32) -> Binding {
+    let token = token_of(surface.module, named);
+    if matches!(token.shape, Shape::Underscore) {
+        return Binding::Wildcard;
+    }
+    let name = name(surface, token);
+    if is_written(surface.module, mutable) {
+        Binding::Mutable(name)
+    } else {
+        Binding::Fixed(name)
+    }
+}
+
+/// The operators and their spellings, the longer ones first.
+const OPERATORS: [(&[u8], Operator); 16] = [
+    (b"==", Operator::Equal),
+    (b"!=", Operator::NotEqual),
+    (b"<=", Operator::LessOrEqual),
+    (b">=", Operator::GreaterOrEqual),
+    (b"<<", Operator::ShiftLeft),
+    (b">>", Operator::ShiftRight),
+    (b"+", Operator::Add),
+    (b"-", Operator::Subtract),
+    (b"*", Operator::Multiply),
+    (b"/", Operator::Divide),
+    (b"%", Operator::Remainder),
+    (b"<", Operator::Less),
+    (b">", Operator::Greater),
+    (b"&", Operator::And),
+    (b"|", Operator::Or),
+    (b"^", Operator::ExclusiveOr),
+];
+
+/// The operator that a token begins with: itself, or what stands before its `=`.
+pub(crate) fn operator_of(surface: &Surface, token: Terminal) -> Operator {
+    let spelling = spelling(surface.source, token);
+    for (operator, meant) in OPERATORS {
+        if spelling.starts_with(operator) {
+            return meant;
+        }
+    }
+    Operator::Add
 }

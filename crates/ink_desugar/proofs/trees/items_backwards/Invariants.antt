@@ -5,4 +5,4 @@ use Rattle.ink_desugar.proofs.trees.items_backwards.Given as goal
 
 -- what is left, and the items behind it
 abbrev pub invariant-loop : goal.invariant-loop
-invariant-loop l = items_of (tree_at l.module l.rest) ++ map (tree_at l.module) (reverse l.items.items) ≡ items_of (tree_at l.module l.list)
+invariant-loop l = items_of (tree_at l.parsed l.rest) ++ map (tree_at l.parsed) (reverse l.items.items) ≡ items_of (tree_at l.parsed l.list)
