@@ -7,8 +7,10 @@
 #![tactic(auto)]
 
 mod choices;
+mod declarations;
 mod depth;
 mod lists;
+mod methods;
 mod nodes;
 mod patterns;
 mod surface;
@@ -16,6 +18,7 @@ mod texts;
 mod trees;
 mod types;
 mod values;
+mod whole;
 mod words;
 
-pub use words::Words;
+pub use whole::desugar;

@@ -1,10 +1,10 @@
 //! Written types.
-ghost use Rattle.std.specs.Prelude.{◌≤◌, ◌<◌, All, IfOk};
+ghost use Rattle.std.specs.Prelude.{◌≤◌, ◌<◌, All, IfOk, IfSome};
 ghost use Rattle.ink_forms.specs.Views as view;
 
-use crate::depth::deeper;
+use crate::depth::{DEEPEST, deeper};
 use crate::surface::Surface;
-use crate::trees::{items_of, start_of, token_of};
+use crate::trees::{is_written, items_of, start_of, token_of};
 use crate::words::{NO_WORD, name};
 use ink_forms::{Arena, Children, Prefix, WrittenType, WrittenTypeId};
 use ink_grammar::{FourChildren, Keyword, Node, Shape, ThreeChildren, TwoChildren};
@@ -110,5 +110,22 @@ pub(crate) fn written_type(
             let name = NO_WORD;
             arena.push_written(start, start, WrittenType::Named { name, arguments })
         }
+    }
+}
+
+/// The written type of a node, where one is written.
+pub(crate) fn optional_type(
+    surface: &Surface,
+    arena: &mut Arena,
+    number: u32,
+) -> Result<Option<WrittenTypeId>, AllocError>
+    ensures below { IfOk result (λ written. IfSome written (λ n. n < view.count arena.new)) }
+    ensures grows { view.count arena.old ≤ view.count arena.new }
+{
+    if is_written(surface.module, number) {
+        let written = written_type(surface, arena, DEEPEST, number)?;
+        Ok(Some(written))
+    } else {
+        Ok(None)
     }
 }

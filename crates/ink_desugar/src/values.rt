@@ -3,20 +3,19 @@ ghost use Rattle.std.specs.Prelude.{◌≤◌, ◌<◌, IfOk, IfSome};
 ghost use Rattle.ink_forms.specs.Views as view;
 
 use crate::choices::{Decision, Side, decided, push_error, push_try};
-use crate::depth::{DEEPEST, deeper};
+use crate::depth::deeper;
 use crate::lists::{add_arguments, arms, statements, values, values_of_arguments};
 use crate::nodes::{push_at, push_here, push_literal};
 use crate::surface::Surface;
 use crate::texts::text;
 use crate::trees::{is_written, items_of, start_of, token_of};
-use crate::types::written_type;
+use crate::types::optional_type;
 use crate::words::{
     binding_of, borrow_kind, integer, is_panic, made_of, name, operator_of, owner_of,
     integer_literal,
 };
 use ink_forms::{
-    Arena, Binding, Children, Choice, Expr, ExprId, Literal, Made, NameId, Selector,
-    WrittenTypeId,
+    Arena, Binding, Children, Choice, Expr, ExprId, Literal, Made, Selector, WrittenTypeId,
 };
 use ink_grammar::{
     FiveChildren, FourChildren, Keyword, Mark, Node, OneChild, Shape, Terminal, ThreeChildren,
@@ -143,23 +142,6 @@ fn push_let(
             },
         ),
         None => push_here(arena, start, Expr::Let { binding, value }),
-    }
-}
-
-/// The written type of a variable, where there is one.
-fn annotation(
-    surface: &Surface,
-    arena: &mut Arena,
-    number: u32,
-) -> Result<Option<WrittenTypeId>, AllocError>
-    ensures below { IfOk result (λ written. IfSome written (λ n. n < view.count arena.new)) }
-    ensures grows { view.count arena.old ≤ view.count arena.new }
-{
-    if is_written(surface.module, number) {
-        let written = written_type(surface, arena, DEEPEST, number)?;
-        Ok(Some(written))
-    } else {
-        Ok(None)
     }
 }
 
@@ -564,7 +546,7 @@ pub(crate) fn value(
             tuple(surface, arena, left, start, Made::Tuple3, &[a, b, c])
         }
         Some(Node::Five(FiveChildren::Let, start, _, mutable, named, written, bound)) => {
-            let annotation = annotation(surface, arena, written)?;
+            let annotation = optional_type(surface, arena, written)?;
             let value = value(surface, arena, left, bound)?;
             let binding = binding_of(surface, mutable, named);
             push_let(arena, start, binding, annotation, value)

@@ -16,7 +16,7 @@ pub(crate) const NO_WORD: u32 = 0xffff_ffff;
 
 /// The names, integers and texts of a module.
 #[derive(Drop)]
-pub struct Words {
+pub(crate) struct Words {
     /// The spellings of the names. A field's has no `@`.
     pub names: Names,
     pub integers: Integers,

@@ -1,5 +1,5 @@
 -- What fits among some lists fits among longer ones.
-use Rattle.std.proofs.Common.{◌≡◌, ℕ, ◌≤◌, List, All, length, sym, subst, arith}
+use Rattle.std.proofs.Common.{ℕ, ◌≤◌, List, All, length, sym, subst, arith}
 use Rattle.ink_forms.specs.declared.node.Node.{Node}
 use Rattle.ink_forms.specs.declared.node.Form.{Form}
 use Rattle.ink_forms.specs.declared.node.Form.TheVariants as f
@@ -10,7 +10,7 @@ use Rattle.ink_forms.specs.declared.pattern.Pattern.{Pattern}
 use Rattle.ink_forms.specs.declared.pattern.Pattern.TheVariants as p
 use Rattle.ink_forms.specs.declared.written.WrittenType.{WrittenType}
 use Rattle.ink_forms.specs.declared.written.WrittenType.TheVariants as w
-use Rattle.ink_forms.specs.Built.{Lists, part}
+use Rattle.ink_forms.specs.Built.{Lists}
 use Rattle.ink_forms.specs.Fits.{IsBelow, IsArmBelow, IsArgumentBelow, IsFieldBelow, Holds, NumbersFit, ArmsFit, ArgumentsFit, FieldsFit, ExprFits, PatternFits, WrittenFits, Fits, AreFit}
 use Rattle.ink_forms.specs.Kept.{Lengthened, Lengthens}
 

@@ -1,8 +1,8 @@
 -- The trees of an arena that grows.
-use Rattle.std.proofs.Common.{◌≡◌, ℕ, ◌+◌, ◌-◌, ◌<◌, ◌≤◌, List, [], ◌∷◌, ◌++◌, length, map, take, drop, Option, Some, None, All, refl, sym, ap, subst, ◌∙◌, arith, length-append, length-drop, append_assoc, zero, suc, add-zero, zero-add, Bool, true, false, if◌then◌else◌}
+use Rattle.std.proofs.Common.{◌≡◌, ℕ, ◌+◌, ◌<◌, ◌≤◌, List, [], ◌∷◌, ◌++◌, length, map, Option, Some, None, refl, sym, ap, subst, ◌∙◌, arith, length-append, append_assoc, zero, suc, add-zero, zero-add, Bool, true, false, if◌then◌else◌}
 use Rattle.std.specs.Prelude.{slice_get, IfSome}
 use Rattle.std.specs.List.{AllByRecursion}
-use Rattle.std.proofs.lemmas.List.{append-nil, take-append-le, drop-append-le, take_all, drop_at}
+use Rattle.std.proofs.lemmas.List.{append-nil}
 use Rattle.std.proofs.lemmas.List.Elements.{recursion_from_All}
 use Rattle.ink_forms.specs.declared.node.Node.{Node}
 use Rattle.ink_forms.specs.declared.node.Form.{Form}
@@ -19,8 +19,8 @@ use Rattle.ink_forms.specs.declared.pattern.Pattern.{Pattern}
 use Rattle.ink_forms.specs.declared.pattern.Pattern.TheVariants as p
 use Rattle.ink_forms.specs.declared.written.WrittenType.{WrittenType}
 use Rattle.ink_forms.specs.declared.written.WrittenType.TheVariants as w
-use Rattle.ink_forms.specs.Trees.{Spot, Written, Named, Tuple, Pat, Constructor, Either, Fields, ByName, ByOperator, Constructed, Plain, Of, Term, Terms, Guard, Block, New, Arr, Call, Fn, Static, Match, Panic, NoTerm, AndTerm, When, OneArm, OneArgument, OneField, ParameterTree, MethodTree, written_list, pats, field_pats, terms, arguments, arms}
-use Rattle.ink_forms.specs.Built.{Lists, Item, IsTerm, IsPat, IsWritten, IsParameter, IsMethod, spot, term_or, pat_or, written_or, parameter_or, method_or, term_at, pat_at, written_at, parameter_at, method_at, guard_at, arm_at, argument_at, field_at, part, terms_at, pats_at, written_list_at, parameters_at, arms_at, arguments_at, fields_at, grow_term, grow_pat, grow_written, grow_parameter, grow_method, grow, onto, items}
+use Rattle.ink_forms.specs.Trees.{Spot, Written, Named, Tuple, Pat, Constructor, Either, Fields, ByName, Plain, Of, Term, Guard, Block, New, Arr, Call, Fn, Static, Match, Panic, When, OneArm, OneArgument, OneField, ParameterTree, MethodTree, written_list, pats, field_pats, terms, arguments, arms}
+use Rattle.ink_forms.specs.Built.{Lists, Item, IsTerm, IsPat, IsWritten, IsParameter, IsMethod, spot, term_or, pat_or, written_or, parameter_or, method_or, term_at, pat_at, written_at, parameter_at, guard_at, arm_at, argument_at, field_at, part, terms_at, pats_at, written_list_at, parameters_at, arms_at, arguments_at, fields_at, grow_term, grow_pat, grow_written, grow_parameter, grow_method, grow, onto, items}
 use Rattle.ink_forms.specs.Fits.{IsBelow, IsArmBelow, IsArgumentBelow, IsFieldBelow, Holds, NumbersFit, ArmsFit, ArgumentsFit, FieldsFit, ExprFits, PatternFits, WrittenFits, MethodFits, Fits, AreFit}
 use Rattle.ink_forms.specs.Kept.{Lengthened, Lengthens, Agrees}
 

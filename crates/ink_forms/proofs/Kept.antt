@@ -1,13 +1,12 @@
 -- What an arena showed before it grew, it shows still: for rooms that make one.
-use Rattle.std.proofs.Common.{◌≡◌, ℕ, ◌<◌, ◌≤◌, List, length, map, All, refl, ap, ◌∙◌, arith}
+use Rattle.std.proofs.Common.{◌≡◌, ℕ, ◌<◌, ◌≤◌, List, length, map, All, ap, ◌∙◌, arith}
 use Rattle.std.proofs.lemmas.List.Elements.{recursion_from_All}
 use Rattle.ink_forms.specs.declared.arena.Arena.{Arena}
 use Rattle.ink_forms.specs.declared.expr.Arm.{Arm}
 use Rattle.ink_forms.specs.declared.expr.Argument.{Argument}
-use Rattle.ink_forms.specs.declared.list.Children.{Children}
 use Rattle.ink_forms.specs.declared.pattern.FieldPattern.{FieldPattern}
 use Rattle.ink_forms.specs.Trees as tree
-use Rattle.ink_forms.specs.Built.{Item, Lists, part}
+use Rattle.ink_forms.specs.Built.{Item, Lists}
 use Rattle.ink_forms.specs.Kept.{Lengthened, Lengthens, Agrees}
 use Rattle.ink_forms.specs.Views as view
 use Rattle.ink_forms.specs.Views.{Keeps}

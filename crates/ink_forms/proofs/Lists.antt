@@ -1,11 +1,10 @@
 -- What a node more, or a list more, leaves as it was.
-use Rattle.std.proofs.Common.{◌≡◌, ℕ, ◌+◌, ◌-◌, ◌≤◌, List, [], ◌∷◌, ◌++◌, length, take, drop, Some, refl, sym, ap, subst, ◌∙◌, arith, length-append, length-drop, Bool, true, false, if◌then◌else◌}
+use Rattle.std.proofs.Common.{◌≡◌, ℕ, ◌-◌, ◌≤◌, List, [], ◌∷◌, ◌++◌, length, take, drop, Some, refl, sym, ap, subst, ◌∙◌, arith, length-append, length-drop, Bool, true, false, if◌then◌else◌}
 use Rattle.std.specs.Prelude.{slice_get}
 use Rattle.std.proofs.lemmas.List.{take-append-le, drop-append-le}
 use Rattle.ink_forms.specs.declared.node.Node.{Node}
 use Rattle.ink_forms.specs.declared.expr.Arm.{Arm}
 use Rattle.ink_forms.specs.declared.expr.Argument.{Argument}
-use Rattle.ink_forms.specs.declared.list.Children.{Children}
 use Rattle.ink_forms.specs.declared.pattern.FieldPattern.{FieldPattern}
 use Rattle.ink_forms.specs.Trees.{Term, Pat, Written, ParameterTree, MethodTree}
 use Rattle.ink_forms.specs.Built.{Lists, Item, IsTerm, IsPat, IsWritten, IsParameter, IsMethod, all_lists, part, term_or, pat_or, written_or, parameter_or, method_or, term_at, pat_at, written_at, parameter_at, method_at, items}

@@ -5,7 +5,7 @@ use Rattle.ink_forms.specs.declared.expr.Arm.{Arm}
 use Rattle.ink_forms.specs.declared.expr.Argument.{Argument}
 use Rattle.ink_forms.specs.declared.expr.Expr.{Expr}
 use Rattle.ink_forms.specs.declared.expr.Expr.TheVariants as e
-use Rattle.ink_forms.specs.Trees.{Spot, Term}
+use Rattle.ink_forms.specs.Trees.{Spot}
 use Rattle.ink_forms.specs.Built.{Lists, Item, spot, grow_term}
 use Rattle.ink_forms.specs.Order.{number_of, all, all_arguments, all_arms, guarded, step, steps, argument_steps, guard_steps, arm_steps}
 use Rattle.ink_forms.specs.Views as view

@@ -17,7 +17,7 @@ use Rattle.ink_forms.specs.declared.pattern.Pattern.TheVariants as p
 use Rattle.ink_forms.specs.declared.word.Literal.TheVariants as literal
 use Rattle.ink_forms.specs.declared.written.WrittenType.{WrittenType}
 use Rattle.ink_forms.specs.declared.written.WrittenType.TheVariants as w
-use Rattle.ink_forms.specs.Trees.{Spot, Written, WrittenList, Named, Prefixed, Tuple, NoWritten, Pat, Pats, FieldPats, Wildcard, LitPat, Name, Constructor, Either, Fields, Callee, ByName, ByOperator, Constructed, Plain, Of, Term, Terms, Arguments, Guard, Arms, Lit, Var, SelfValue, Field, Borrow, Set, Swap, Let, Block, New, Arr, Call, Fn, Static, Match, Loop, Break, Next, Return, Recover, Panic, Drop, Statement, NoTerm, AndTerm, Always, When, OneArm, OneArgument, OneField, ParameterTree, MethodTree, written_list, pats, field_pats, terms, arguments, arms}
+use Rattle.ink_forms.specs.Trees.{Spot, Written, WrittenList, Named, Prefixed, Tuple, NoWritten, Pat, Pats, FieldPats, Wildcard, LitPat, Name, Constructor, Either, Fields, ByName, ByOperator, Plain, Of, Term, Terms, Arguments, Guard, Arms, Lit, Var, SelfValue, Field, Borrow, Set, Swap, Let, Block, New, Arr, Call, Fn, Static, Match, Loop, Break, Next, Return, Recover, Panic, Drop, Statement, NoTerm, AndTerm, Always, When, OneArm, OneArgument, OneField, ParameterTree, MethodTree, written_list, pats, field_pats, terms, arguments, arms}
 
 -- what stands at a number
 pub data Item : Type 0 where

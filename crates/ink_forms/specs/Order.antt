@@ -6,7 +6,7 @@ use Rattle.ink_forms.specs.declared.order.Part.{Part}
 use Rattle.ink_forms.specs.declared.order.Part.TheVariants as part
 use Rattle.ink_forms.specs.declared.order.Step.{Step}
 use Rattle.ink_forms.specs.Trees.{Spot, Term, Terms, Arguments, Guard, Arms, Lit, Var, SelfValue, Field, Borrow, Set, Swap, Let, Block, New, Arr, Call, Fn, Static, Match, Loop, Break, Next, Return, Recover, Panic, Drop, Statement, NoTerm, AndTerm, NoArgument, AndArgument, Always, When, NoArm, AndArm}
-use Rattle.ink_forms.specs.Work.{Worked, read, done, behind, around, whole}
+use Rattle.ink_forms.specs.Work.{Worked, read, done, behind, around}
 
 abbrev pub spot_of : Term → Spot
 spot_of (Lit s x) = s

@@ -1,5 +1,5 @@
 -- What an arena shows. Rooms that read it name these words alone.
-use Rattle.std.specs.Prelude.{◌≡◌, ℕ, List, Option, Some, All, length, ◌≤◌, ◌<◌}
+use Rattle.std.specs.Prelude.{◌≡◌, ℕ, List, Option, length, ◌≤◌}
 use Rattle.ink_forms.specs.declared.arena.Arena.{Arena}
 use Rattle.ink_forms.specs.declared.expr.Arm.{Arm}
 use Rattle.ink_forms.specs.declared.expr.Argument.{Argument}

@@ -2,87 +2,87 @@ use Rattle.std.proofs.Common.{◌<◌, ◌≤◌, All}
 use Rattle.ink_forms.specs.Views as view
 use Rattle.ink_desugar.proofs.+values.Given as goal
 
-abbrev pub decreases-values : goal.decreases-values
-decreases-values l = l.depth
+abbrev pub decreases-lists::values : goal.decreases-lists::values
+decreases-lists::values l = l.depth
 
-abbrev pub decreases-statement : goal.decreases-statement
-decreases-statement l = l.depth
+abbrev pub decreases-lists::statement : goal.decreases-lists::statement
+decreases-lists::statement l = l.depth
 
-abbrev pub decreases-statements : goal.decreases-statements
-decreases-statements l = l.depth
+abbrev pub decreases-lists::statements : goal.decreases-lists::statements
+decreases-lists::statements l = l.depth
 
-abbrev pub decreases-guard : goal.decreases-guard
-decreases-guard l = l.depth
+abbrev pub decreases-lists::guard : goal.decreases-lists::guard
+decreases-lists::guard l = l.depth
 
-abbrev pub decreases-arms : goal.decreases-arms
-decreases-arms l = l.depth
+abbrev pub decreases-lists::arms : goal.decreases-lists::arms
+decreases-lists::arms l = l.depth
 
-abbrev pub decreases-side_value : goal.decreases-side_value
-decreases-side_value l = l.depth
+abbrev pub decreases-choices::side_value : goal.decreases-choices::side_value
+decreases-choices::side_value l = l.depth
 
-abbrev pub decreases-decided : goal.decreases-decided
-decreases-decided l = l.depth
+abbrev pub decreases-choices::decided : goal.decreases-choices::decided
+decreases-choices::decided l = l.depth
 
-abbrev pub decreases-piece : goal.decreases-piece
-decreases-piece l = l.depth
+abbrev pub decreases-texts::piece : goal.decreases-texts::piece
+decreases-texts::piece l = l.depth
 
-abbrev pub decreases-text : goal.decreases-text
-decreases-text l = l.depth
+abbrev pub decreases-texts::text : goal.decreases-texts::text
+decreases-texts::text l = l.depth
 
-abbrev pub decreases-block : goal.decreases-block
-decreases-block l = l.depth
+abbrev pub decreases-values::block : goal.decreases-values::block
+decreases-values::block l = l.depth
 
-abbrev pub decreases-value_of_two : goal.decreases-value_of_two
-decreases-value_of_two l = l.depth
+abbrev pub decreases-values::value_of_two : goal.decreases-values::value_of_two
+decreases-values::value_of_two l = l.depth
 
-abbrev pub decreases-composed_of_two : goal.decreases-composed_of_two
-decreases-composed_of_two l = l.depth
+abbrev pub decreases-values::composed_of_two : goal.decreases-values::composed_of_two
+decreases-values::composed_of_two l = l.depth
 
-abbrev pub decreases-linked : goal.decreases-linked
-decreases-linked l = l.depth
+abbrev pub decreases-values::linked : goal.decreases-values::linked
+decreases-values::linked l = l.depth
 
-abbrev pub decreases-linked_call : goal.decreases-linked_call
-decreases-linked_call l = l.depth
+abbrev pub decreases-values::linked_call : goal.decreases-values::linked_call
+decreases-values::linked_call l = l.depth
 
-abbrev pub decreases-assigned : goal.decreases-assigned
-decreases-assigned l = l.depth
+abbrev pub decreases-values::assigned : goal.decreases-values::assigned
+decreases-values::assigned l = l.depth
 
-abbrev pub decreases-operated : goal.decreases-operated
-decreases-operated l = l.depth
+abbrev pub decreases-values::operated : goal.decreases-values::operated
+decreases-values::operated l = l.depth
 
-abbrev pub decreases-value_of_three : goal.decreases-value_of_three
-decreases-value_of_three l = l.depth
+abbrev pub decreases-values::value_of_three : goal.decreases-values::value_of_three
+decreases-values::value_of_three l = l.depth
 
-abbrev pub decreases-tuple : goal.decreases-tuple
-decreases-tuple l = l.depth
+abbrev pub decreases-values::tuple : goal.decreases-values::tuple
+decreases-values::tuple l = l.depth
 
-abbrev pub decreases-value : goal.decreases-value
-decreases-value l = l.depth
+abbrev pub decreases-values::value : goal.decreases-values::value
+decreases-values::value l = l.depth
 
 -- the values so far are there
-abbrev pub invariant-values-loop-item : goal.invariant-values-loop-item
-invariant-values-loop-item l = record {
+abbrev pub invariant-lists::values-loop-item : goal.invariant-lists::values-loop-item
+invariant-lists::values-loop-item l = record {
   below : All (view.IsBefore (view.count l.arena)) l.numbers.items;
   grows : view.count l.initial.arena ≤ view.count l.arena;
 }
 
 -- the statements so far are there
-abbrev pub invariant-statements-loop-item : goal.invariant-statements-loop-item
-invariant-statements-loop-item l = record {
+abbrev pub invariant-lists::statements-loop-item : goal.invariant-lists::statements-loop-item
+invariant-lists::statements-loop-item l = record {
   below : All (view.IsBefore (view.count l.arena)) l.numbers.items;
   grows : view.count l.initial.arena ≤ view.count l.arena;
 }
 
 -- the arms so far are there
-abbrev pub invariant-arms-loop-item : goal.invariant-arms-loop-item
-invariant-arms-loop-item l = record {
+abbrev pub invariant-lists::arms-loop-item : goal.invariant-lists::arms-loop-item
+invariant-lists::arms-loop-item l = record {
   below : All (view.IsArmBefore (view.count l.arena)) l.made.items;
   grows : view.count l.initial.arena ≤ view.count l.arena;
 }
 
 -- the text so far is there
-abbrev pub invariant-text-loop-item : goal.invariant-text-loop-item
-invariant-text-loop-item l = record {
+abbrev pub invariant-texts::text-loop-item : goal.invariant-texts::text-loop-item
+invariant-texts::text-loop-item l = record {
   below : l.joined < view.count l.arena;
   grows : view.count l.initial.arena ≤ view.count l.arena;
 }
