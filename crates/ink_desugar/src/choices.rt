@@ -7,9 +7,7 @@ use crate::nodes::{plain_arm, push_at, push_here, push_literal};
 use crate::surface::Surface;
 use crate::values::value;
 use crate::words::try_name;
-use ink_forms::{
-    Argument, Arena, Choice, Expr, ExprId, Literal, Made, NameId, Pattern, PatternId,
-};
+use ink_forms::{Arena, Argument, Choice, Expr, ExprId, Literal, Made, NameId, Pattern, PatternId};
 use std::alloc::AllocError;
 
 /// What stands on one side of a choice.

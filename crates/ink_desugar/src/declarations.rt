@@ -6,12 +6,10 @@ use crate::trees::{has_word, is_written, items_of, token_of};
 use crate::types::{optional_type, types, written_type};
 use crate::words::identifier;
 use ink_forms::{
-    Arena, Constructor, Declaration, Declarations, Field, Implementation, Import,
-    Member, MethodDeclaration, Trait, TraitMethod, TypeDeclaration, TypeForm,
+    Arena, Constructor, Declaration, Declarations, Field, Implementation, Import, Member,
+    MethodDeclaration, Trait, TraitMethod, TypeDeclaration, TypeForm,
 };
-use ink_grammar::{
-    FiveChildren, FourChildren, Keyword, Node, ThreeChildren, TwoChildren,
-};
+use ink_grammar::{FiveChildren, FourChildren, Keyword, Node, ThreeChildren, TwoChildren};
 use std::alloc::AllocError;
 
 /// The imports of a list.
@@ -19,8 +17,9 @@ fn imports(surface: &Surface, list: u32) -> Result<Vec<Import>, AllocError> {
     let items = items_of(surface.alloc, surface.module, list)?;
     let mut made = Vec::new(surface.alloc);
     for item in &items {
-        if let Some(Node::Three(ThreeChildren::Import, start, _, path, names)) =
-            surface.module.node(*item)
+        if let Some(Node::Three(ThreeChildren::Import, start, _, path, names)) = surface
+            .module
+            .node(*item)
         {
             let path = identifiers(surface, path)?;
             let names = identifiers(surface, names)?;
@@ -69,11 +68,7 @@ fn constructor(
 }
 
 /// A member of a type. A node that is none makes none.
-fn member(
-    surface: &Surface,
-    arena: &mut Arena,
-    number: u32,
-) -> Result<Option<Member>, AllocError> {
+fn member(surface: &Surface, arena: &mut Arena, number: u32) -> Result<Option<Member>, AllocError> {
     match surface.module.node(number) {
         Some(Node::Four(FourChildren::FieldDeclaration, start, _, words, named, written)) => {
             let field = field(surface, arena, start, words, named, written)?;
@@ -163,8 +158,9 @@ fn trait_methods(
     let items = items_of(surface.alloc, surface.module, list)?;
     let mut made = Vec::new(surface.alloc);
     for item in &items {
-        if let Some(Node::Five(FiveChildren::TraitMethod, start, _, words, named, list, result)) =
-            surface.module.node(*item)
+        if let Some(
+            Node::Five(FiveChildren::TraitMethod, start, _, words, named, list, result),
+        ) = surface.module.node(*item)
         {
             let method = trait_method(surface, arena, start, [words, named, list, result])?;
             made.push(method)?;
@@ -182,8 +178,9 @@ fn methods(
     let items = items_of(surface.alloc, surface.module, list)?;
     let mut made = Vec::new(surface.alloc);
     for item in &items {
-        if let Some(Node::Four(FourChildren::Method, start, _, words, signature, block)) =
-            surface.module.node(*item)
+        if let Some(Node::Four(FourChildren::Method, start, _, words, signature, block)) = surface
+            .module
+            .node(*item)
         {
             let method = method(surface, arena, start, words, signature, block)?;
             made.push(method)?;

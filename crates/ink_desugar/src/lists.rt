@@ -8,7 +8,7 @@ use crate::surface::Surface;
 use crate::trees::{is_written, items_of, token_of};
 use crate::values::value;
 use crate::words::identifier;
-use ink_forms::{Argument, Arena, Arm, Children, Expr, ExprId, Identifier};
+use ink_forms::{Arena, Argument, Arm, Children, Expr, ExprId, Identifier};
 use ink_grammar::{FourChildren, Module, Node, OneChild, TwoChildren};
 use std::alloc::AllocError;
 

@@ -33,8 +33,9 @@ pub(crate) fn type_parameters(
     let items = items_of(surface.alloc, surface.module, list)?;
     let mut made = Vec::new(surface.alloc);
     for item in &items {
-        if let Some(Node::Two(TwoChildren::TypeParameter, _, named, bounds)) =
-            surface.module.node(*item)
+        if let Some(Node::Two(TwoChildren::TypeParameter, _, named, bounds)) = surface
+            .module
+            .node(*item)
         {
             let name = identifier(surface, token_of(surface.module, named));
             let bounds = identifiers(surface, bounds)?;

@@ -5,8 +5,8 @@ ghost use Rattle.ink_forms.specs.Views as view;
 ghost use Rattle.ink_desugar.specs.Makes.{IsPat};
 ghost use Rattle.ink_desugar.specs.Patterns as table;
 
-use crate::surface::Surface;
 use crate::depth::deeper;
+use crate::surface::Surface;
 use crate::trees::{alternatives_of, items_of, parts_of_field, start_of, token_of};
 use crate::words::{empty_literal, identifier, integer_literal, made_of, name, text_literal};
 use ink_forms::{Arena, Children, FieldPattern, Literal, Made, Pattern, PatternId};
@@ -42,7 +42,14 @@ fn leaf_pattern(
     match token.shape {
         Shape::Name => {
             let name = name(surface, token);
-            push_here(arena, start, Pattern::Name { is_mutable: false, name })
+            push_here(
+                arena,
+                start,
+                Pattern::Name {
+                    is_mutable: false,
+                    name,
+                },
+            )
         }
         Shape::Constant => {
             let parts = arena.add_list(&[])?;
@@ -163,7 +170,14 @@ fn pattern_of_two(
     match form {
         TwoChildren::MutableName => {
             let name = name(surface, token_of(surface.module, b));
-            push_here(arena, start, Pattern::Name { is_mutable: true, name })
+            push_here(
+                arena,
+                start,
+                Pattern::Name {
+                    is_mutable: true,
+                    name,
+                },
+            )
         }
         TwoChildren::ConstructorPattern => {
             let items = items_of(surface.alloc, surface.module, b)?;

@@ -117,9 +117,7 @@ pub(crate) fn has_word(
     word: Keyword,
 ) -> Result<bool, AllocError> {
     let items = items_of(alloc, parsed, list)?;
-    Ok(items
-        .iter()
-        .any(|item| token_of(parsed, *item).shape == Shape::Keyword(word)))
+    Ok(items.iter().any(|item| token_of(parsed, *item).shape == Shape::Keyword(word)))
 }
 
 /// Whether anything is written at a node.

@@ -11,8 +11,8 @@ use crate::texts::text;
 use crate::trees::{is_written, items_of, start_of, token_of};
 use crate::types::optional_type;
 use crate::words::{
-    binding_of, borrow_kind, integer, is_panic, made_of, name, operator_of, owner_of,
-    integer_literal,
+    binding_of, borrow_kind, integer, integer_literal, is_panic, made_of, name, operator_of,
+    owner_of,
 };
 use ink_forms::{
     Arena, Binding, Children, Choice, Expr, ExprId, Literal, Made, Selector, WrittenTypeId,

@@ -2,10 +2,10 @@
 use crate::declarations::declarations;
 use crate::surface::Surface;
 use crate::words::{Words, name_spelling, spelling};
+use ink_forms::Arena;
 use ink_grammar::{Module, Node, Shape, Terminal};
 use ink_module::CoreModule;
 use ink_tables::{Integers, Lines, Names, Texts, integer_value, unescaped_part};
-use ink_forms::Arena;
 use std::alloc::{AllocError, Global};
 
 /// Gives what a token says its number.
@@ -17,9 +17,7 @@ fn add_word(
 ) -> Result<(), AllocError> {
     match token.shape {
         Shape::Name | Shape::Constant | Shape::Field | Shape::Keyword(_) => {
-            words
-                .names
-                .intern(alloc, name_spelling(source, token))?;
+            words.names.intern(alloc, name_spelling(source, token))?;
         }
         Shape::Integer | Shape::Hexadecimal => {
             words
