@@ -1,0 +1,4 @@
+pub mod Lexicon
+pub mod Makes
+pub mod Patterns
+pub mod Trees
