@@ -40,32 +40,23 @@ const CUT_FOR_GOOD: Plan = Plan {
     failing: &[2, 3],
 };
 
-/// Devices of a reading and of the plans of both sinks.
-const fn devices(reading: Reading, out: Plan, err: Plan) -> Devices {
-    Devices { reading, out, err }
-}
-
-/// The files of cases, and the devices of each.
-static CASES: [(&str, Devices); 10] = [
-    ("runs", devices(Reading::Bytes, SOUND, SOUND)),
-    ("refusals", devices(Reading::Bytes, SOUND, SOUND)),
-    ("prints", devices(Reading::Bytes, SOUND, SOUND)),
-    ("wrong_words", devices(Reading::Bytes, SOUND, SOUND)),
-    ("failing_output", devices(Reading::Bytes, CUT_EARLY, SOUND)),
-    (
-        "failing_output_untold",
-        devices(Reading::Bytes, CUT_EARLY, CUT_LATE),
-    ),
-    ("failing_errors", devices(Reading::Fault, SOUND, CUT_LATE)),
+/// The files of cases, each with what the read of the file comes to, and how output and errors fail.
+static CASES: [(&str, Reading, Plan, Plan); 10] = [
+    ("runs", Reading::Bytes, SOUND, SOUND),
+    ("refusals", Reading::Bytes, SOUND, SOUND),
+    ("prints", Reading::Bytes, SOUND, SOUND),
+    ("wrong_words", Reading::Bytes, SOUND, SOUND),
+    ("failing_output", Reading::Bytes, CUT_EARLY, SOUND),
+    ("failing_output_untold", Reading::Bytes, CUT_EARLY, CUT_LATE),
+    ("failing_errors", Reading::Fault, SOUND, CUT_LATE),
     (
         "failing_errors_for_good",
-        devices(Reading::Fault, SOUND, CUT_FOR_GOOD),
+        Reading::Fault,
+        SOUND,
+        CUT_FOR_GOOD,
     ),
-    ("no_memory", devices(Reading::NoMemory, SOUND, SOUND)),
-    (
-        "no_memory_untold",
-        devices(Reading::NoMemory, SOUND, CUT_EARLY),
-    ),
+    ("no_memory", Reading::NoMemory, SOUND, SOUND),
+    ("no_memory_untold", Reading::NoMemory, SOUND, CUT_EARLY),
 ];
 
 /// The words of a command.
@@ -167,7 +158,8 @@ fn show_cases<R: Files + AllocGlobal>(
 
 fn main(rt: HostRuntime) -> io::Result<()> {
     let mut sheet = Sheet::new(rt.alloc());
-    for (file, devices) in CASES {
+    for (file, reading, out, err) in CASES {
+        let devices = Devices { reading, out, err };
         show_cases(&rt, &mut sheet, file, devices)?;
     }
     print!(rt; "{}", sheet.whole()?)
