@@ -1,4 +1,0 @@
-pub mod PileLemmas
-pub mod KnownLemmas
-pub mod SeenLemmas
-pub mod TextLemmas
