@@ -8,7 +8,7 @@ use crate::method::Method;
 use ink_base::{Items, Text, Value};
 
 /// The code of a program.
-#[derive(Debug, Drop)]
+#[derive(Drop)]
 pub struct Code {
     pub methods: Items<Method>,
     /// What `Const` gives: each is an Int, a Bool, Nil or a text.
@@ -24,7 +24,7 @@ pub struct Code {
 }
 
 /// A type has a method in a slot.
-#[derive(Clone, Copy, Debug, PartialEq, Eq)]
+#[derive(Clone, Copy)]
 pub struct Impl {
     pub kind: u32,
     pub slot: u32,

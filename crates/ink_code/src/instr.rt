@@ -6,7 +6,7 @@
 use ink_base::Items;
 
 /// One instruction.
-#[derive(Debug, Drop)]
+#[derive(Drop)]
 pub enum Instr {
     /// A constant.
     Const {

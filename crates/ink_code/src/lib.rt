@@ -20,6 +20,6 @@ pub use code::{Code, Impl};
 pub use frame::Frame;
 pub use instr::Instr;
 pub use kinds::{ARRAY_KIND, NONE_TAG, OPTION_KIND, SOME_TAG, STDOUT_KIND};
-pub use lines::listing;
+pub use lines::{instr_line, listing};
 pub use method::Method;
 pub use wrong::Wrong;

@@ -22,6 +22,15 @@ pub fn listing(alloc: Global, code: &Code) -> Result<Text, AllocError>
     Ok(Text::from_bytes(out))
 }
 
+/// The line of one instruction in a listing, which tells its place.
+pub fn instr_line(alloc: Global, place: u64, instr: &Instr) -> Result<Text, AllocError>
+    ensures { IfOk result (λ text. text ≡ instr_text place instr.now) }
+{
+    let mut out = Vec::new(alloc);
+    put_instr(alloc, &mut out, place, instr)?;
+    Ok(Text::from_bytes(out))
+}
+
 /// Writes the lines of a method.
 #[tactic(auto, unfolding(crate::specs::Listing::method_text, crate::specs::Listing::number_text))]
 fn put_method(alloc: Global, out: &mut Vec<u8>, method: &Method) -> Result<(), AllocError>

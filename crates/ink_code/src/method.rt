@@ -5,7 +5,7 @@ use crate::instr::Instr;
 use ink_base::{Items, Text};
 
 /// A method.
-#[derive(Debug, Drop)]
+#[derive(Drop)]
 pub struct Method {
     /// Its name, as a report of a panic writes it.
     pub name: Text,

@@ -2,45 +2,42 @@
 
 use crate::stage::Stage;
 use crate::values::{behind, first_id, numbers_behind, small_at};
-use crate::written::{found_text, plain, value_text, with_values, wrong_text};
+use crate::written::{found, numbered, value, with_values, wrong};
 use ink_base::{Items, Value};
 use ink_code::{Frame, Wrong};
 use ink_proc::{EnterFault, Frames, TakeApartFault, WaitFault};
+use ink_sheet::Sheet;
 use std::alloc::{AllocError, Global};
 use std::mem;
 
 /// What came of something that can be wrong.
-fn done_text(alloc: Global, came: Result<(), Wrong>, done: &str) -> Result<String, AllocError> {
+fn told_done(sheet: &mut Sheet, came: Result<(), Wrong>, done: &str) {
     match came {
-        Ok(()) => plain(alloc, done),
-        Err(why) => wrong_text(alloc, why),
+        Ok(()) => sheet.text(done),
+        Err(why) => wrong(sheet, why),
     }
 }
 
 /// A frame.
-fn frame_text(alloc: Global, frame: Option<&Frame>) -> Result<String, AllocError> {
+fn told_frame(sheet: &mut Sheet, frame: Option<&Frame>) {
     match frame {
-        None => plain(alloc, "none"),
+        None => sheet.text("none"),
         Some(frame) => {
-            let registers = with_values(alloc, "holds", frame.registers.as_slice())?;
-            format!(in alloc; "method {} at {} {registers}", frame.method, frame.place)
+            numbered(sheet, "method ", u64::from(frame.method));
+            numbered(sheet, " at ", u64::from(frame.place));
+            with_values(sheet, " holds", frame.registers.as_slice());
         }
     }
 }
 
 /// `frame 8 1 2`: a frame of method 8 with 1 and 2 in its registers.
-fn push(alloc: Global, frames: &mut Frames, values: &[Value]) -> Result<String, AllocError> {
-    let registers = Items::of(behind(alloc, values, 1)?);
-    let method = small_at(values, 0);
-    let place = 0;
-    match frames.push(Frame {
+fn push(frames: &mut Frames, method: u32, registers: Vec<Value>) -> bool {
+    let frame = Frame {
         method,
-        place,
-        registers,
-    }) {
-        Ok(()) => plain(alloc, "pushed"),
-        Err(_) => plain(alloc, "no memory"),
-    }
+        place: 0,
+        registers: Items::of(registers),
+    };
+    frames.push(frame).is_ok()
 }
 
 /// `first 3 4 5 6 7`: the frames in which method 3 begins with 4 registers, of which the first hold 5, 6 and 7.
@@ -58,154 +55,192 @@ fn first(alloc: Global, values: &[Value]) -> Result<Frames, AllocError> {
 }
 
 /// `enter 9 3 1 0`: a frame of method 9 with 3 registers, to which registers 1 and 0 are moved.
-fn enter(alloc: Global, frames: &mut Frames, values: &[Value]) -> Result<String, AllocError> {
+fn enter(
+    alloc: Global,
+    sheet: &mut Sheet,
+    frames: &mut Frames,
+    values: &[Value],
+) -> Result<(), AllocError> {
     let numbers = numbers_behind(alloc, values, 2)?;
-    match frames.enter(
-        alloc,
-        small_at(values, 0),
-        small_at(values, 1),
-        numbers.as_slice(),
-    ) {
-        Ok(()) => plain(alloc, "entered"),
-        Err(EnterFault::Wrong(why)) => wrong_text(alloc, why),
-        Err(EnterFault::OutOfMemory) => plain(alloc, "no memory"),
+    match frames.enter(alloc, small_at(values, 0), small_at(values, 1), &numbers) {
+        Ok(()) => sheet.text("entered"),
+        Err(EnterFault::Wrong(why)) => wrong(sheet, why),
+        Err(EnterFault::OutOfMemory) => sheet.text("no memory"),
     }
+    Ok(())
 }
 
 /// `move_out 1 0`: the values of registers 1 and 0 are moved out.
-fn move_out(alloc: Global, stage: &mut Stage, values: &[Value]) -> Result<String, AllocError> {
-    let numbers = numbers_behind(alloc, values, 0)?;
+fn move_out(
+    alloc: Global,
+    sheet: &mut Sheet,
+    stage: &mut Stage,
+    numbers: &[u32],
+) -> Result<(), AllocError> {
     let room = Vec::with_capacity(alloc, numbers.len())?;
-    match stage.frames.take_out(room, numbers.as_slice()) {
-        Err(why) => wrong_text(alloc, why),
+    match stage.frames.take_out(room, numbers) {
+        Err(why) => wrong(sheet, why),
         Ok(moved) => {
-            let told = with_values(alloc, "moved", moved.as_slice());
+            with_values(sheet, "moved", moved.as_slice());
             stage.moved = moved;
-            told
         }
     }
+    Ok(())
 }
 
 /// `move_in 1 0`: the values that were moved out are moved into registers 1 and 0.
-fn move_in(alloc: Global, stage: &mut Stage, values: &[Value]) -> Result<String, AllocError> {
-    let numbers = numbers_behind(alloc, values, 0)?;
+fn move_in(alloc: Global, sheet: &mut Sheet, stage: &mut Stage, numbers: &[u32]) {
     let moved = mem::replace(&mut stage.moved, Items::new(alloc));
-    done_text(
-        alloc,
-        stage.frames.put_out(numbers.as_slice(), moved),
-        "moved in",
-    )
+    let came = stage.frames.put_out(numbers, moved);
+    told_done(sheet, came, "moved in");
 }
 
 /// `move_back 1 0`: the values that were moved out of registers 1 and 0 go back to them.
-fn move_back(alloc: Global, stage: &mut Stage, values: &[Value]) -> Result<String, AllocError> {
-    let numbers = numbers_behind(alloc, values, 0)?;
+fn move_back(alloc: Global, sheet: &mut Sheet, stage: &mut Stage, numbers: &[u32]) {
     let moved = mem::replace(&mut stage.moved, Items::new(alloc));
     if moved.len() != numbers.len() as u64 {
-        return plain(alloc, "another number of values");
+        sheet.text("another number of values");
+    } else {
+        stage.frames.put_back(numbers, moved);
+        sheet.text("moved back");
     }
-    stage.frames.put_back(numbers.as_slice(), moved);
-    plain(alloc, "moved back")
+}
+
+/// The calls that move values out of registers and into them.
+fn moving_answer(
+    alloc: Global,
+    sheet: &mut Sheet,
+    stage: &mut Stage,
+    name: &str,
+    values: &[Value],
+) -> Result<(), AllocError> {
+    let numbers = numbers_behind(alloc, values, 0)?;
+    match name {
+        "move_in" => move_in(alloc, sheet, stage, &numbers),
+        "move_back" => move_back(alloc, sheet, stage, &numbers),
+        _ => return move_out(alloc, sheet, stage, &numbers),
+    }
+    Ok(())
 }
 
 /// `wait 1`: the value of register 1 waits to be dropped.
-fn wait(alloc: Global, stage: &mut Stage, values: &[Value]) -> Result<String, AllocError> {
-    match stage
-        .pending
-        .push_from(&mut stage.frames, small_at(values, 0))
-    {
-        Ok(()) => plain(alloc, "waits"),
-        Err(WaitFault::Wrong(why)) => wrong_text(alloc, why),
-        Err(WaitFault::OutOfMemory) => plain(alloc, "no memory"),
+fn wait(sheet: &mut Sheet, stage: &mut Stage, register: u32) {
+    match stage.pending.push_from(&mut stage.frames, register) {
+        Ok(()) => sheet.text("waits"),
+        Err(WaitFault::Wrong(why)) => wrong(sheet, why),
+        Err(WaitFault::OutOfMemory) => sheet.text("no memory"),
     }
 }
 
+/// `wait_for 1 @2`: these values wait to be dropped, the last of them first.
+fn wait_for(
+    alloc: Global,
+    sheet: &mut Sheet,
+    stage: &mut Stage,
+    values: &[Value],
+) -> Result<(), AllocError> {
+    for value in values {
+        stage.pending.push(value.copy(alloc)?)?;
+    }
+    sheet.text("waits");
+    Ok(())
+}
+
 /// `take_apart @1`: the fields of object 1, whose owner is the next, wait in its place.
-fn take_apart(alloc: Global, stage: &mut Stage, values: &[Value]) -> Result<String, AllocError> {
+fn take_apart(sheet: &mut Sheet, stage: &mut Stage, values: &[Value]) {
     match stage.pending.take_apart(&mut stage.heap, &first_id(values)) {
-        Ok(()) => plain(alloc, "taken apart"),
-        Err(TakeApartFault::Absent) => plain(alloc, "absent"),
-        Err(TakeApartFault::Borrowed(count)) => format!(in alloc; "borrowed {count}"),
-        Err(TakeApartFault::OutOfMemory) => plain(alloc, "no memory"),
+        Ok(()) => sheet.text("taken apart"),
+        Err(TakeApartFault::Absent) => sheet.text("absent"),
+        Err(TakeApartFault::Borrowed(count)) => numbered(sheet, "borrowed ", count),
+        Err(TakeApartFault::OutOfMemory) => sheet.text("no memory"),
     }
 }
 
 /// The calls of drops that wait.
-fn pending_answer(
-    alloc: Global,
-    stage: &mut Stage,
-    name: &str,
-    values: &[Value],
-) -> Result<String, AllocError> {
+fn pending_answer(sheet: &mut Sheet, stage: &mut Stage, name: &str, values: &[Value]) {
     match name {
-        "wait" => wait(alloc, stage, values),
-        "wait_for" => {
-            for value in behind(alloc, values, 0)?.into_iter() {
-                stage.pending.push(value)?;
-            }
-            plain(alloc, "waits")
-        }
-        "waiting" => format!(in alloc; "{}", stage.pending.len()),
-        "next" => found_text(alloc, stage.pending.first()),
-        "drop_next" => found_text(alloc, stage.pending.pop().as_ref()),
-        "take_apart" => take_apart(alloc, stage, values),
-        _ => plain(alloc, "no such call"),
+        "wait" => wait(sheet, stage, small_at(values, 0)),
+        "waiting" => sheet.plain(&stage.pending.len()),
+        "next" => found(sheet, stage.pending.first()),
+        "drop_next" => found(sheet, stage.pending.pop().as_ref()),
+        "take_apart" => take_apart(sheet, stage, values),
+        _ => sheet.text("no such call"),
     }
 }
 
-/// The calls that work on one register.
-fn register_answer(
+/// The calls that look at one register, or exchange it.
+fn register_answer(sheet: &mut Sheet, stage: &mut Stage, name: &str, values: &[Value]) {
+    let number = small_at(values, 0);
+    match name {
+        "has" => sheet.plain(&stage.frames.has(number)),
+        "register" => found(sheet, stage.frames.register(number)),
+        "swap" => sheet.plain(&stage.frames.swap(number, small_at(values, 1))),
+        "take" => match stage.frames.take(number) {
+            Ok(taken) => value(sheet, &taken),
+            Err(why) => wrong(sheet, why),
+        },
+        _ => pending_answer(sheet, stage, name, values),
+    }
+}
+
+/// The calls that give a register a value.
+fn given_answer(
     alloc: Global,
+    sheet: &mut Sheet,
     stage: &mut Stage,
     name: &str,
     values: &[Value],
-) -> Result<String, AllocError> {
+) -> Result<(), AllocError> {
     let number = small_at(values, 0);
+    let given = behind(alloc, values, 1)?.pop().unwrap_or(Value::Empty);
+    if name == "set" {
+        found(sheet, stage.frames.set(number, given).as_ref());
+    } else {
+        stage.frames.give_back(number, given);
+        sheet.text("given back");
+    }
+    Ok(())
+}
+
+/// The calls of frames as a whole.
+fn stack_answer(sheet: &mut Sheet, stage: &mut Stage, name: &str, values: &[Value]) {
     match name {
-        "has" => format!(in alloc; "{}", stage.frames.has(number)),
-        "register" => found_text(alloc, stage.frames.register(number)),
-        "swap" => format!(in alloc; "{}", stage.frames.swap(number, small_at(values, 1))),
-        "take" => match stage.frames.take(number) {
-            Ok(value) => value_text(alloc, &value),
-            Err(why) => wrong_text(alloc, why),
-        },
-        "set" => {
-            let value = behind(alloc, values, 1)?.pop().unwrap_or(Value::Empty);
-            found_text(alloc, stage.frames.set(number, value).as_ref())
+        "frames" => sheet.plain(&stage.frames.len()),
+        "top" => told_frame(sheet, stage.frames.top()),
+        "pop" => told_frame(sheet, stage.frames.pop().as_ref()),
+        "go_on" => {
+            stage.frames.go_on(small_at(values, 0));
+            told_frame(sheet, stage.frames.top());
         }
-        "give_back" => {
-            let value = behind(alloc, values, 1)?.pop().unwrap_or(Value::Empty);
-            stage.frames.give_back(number, value);
-            plain(alloc, "given back")
-        }
-        _ => pending_answer(alloc, stage, name, values),
+        _ => register_answer(sheet, stage, name, values),
     }
 }
 
 /// What the call of that name comes to.
 pub fn frame_answer(
     alloc: Global,
+    sheet: &mut Sheet,
     stage: &mut Stage,
     name: &str,
     values: &[Value],
-) -> Result<String, AllocError> {
+) -> Result<(), AllocError> {
     match name {
-        "frame" => push(alloc, &mut stage.frames, values),
-        "frames" => format!(in alloc; "{}", stage.frames.len()),
-        "top" => frame_text(alloc, stage.frames.top()),
-        "pop" => frame_text(alloc, stage.frames.pop().as_ref()),
+        "frame" => {
+            let registers = behind(alloc, values, 1)?;
+            let is_pushed = push(&mut stage.frames, small_at(values, 0), registers);
+            sheet.text(if is_pushed { "pushed" } else { "no memory" });
+        }
         "first" => {
             stage.frames = first(alloc, values)?;
-            frame_text(alloc, stage.frames.top())
+            told_frame(sheet, stage.frames.top());
         }
-        "enter" => enter(alloc, &mut stage.frames, values),
-        "go_on" => {
-            stage.frames.go_on(small_at(values, 0));
-            frame_text(alloc, stage.frames.top())
+        "enter" => return enter(alloc, sheet, &mut stage.frames, values),
+        "move_out" | "move_in" | "move_back" => {
+            return moving_answer(alloc, sheet, stage, name, values);
         }
-        "move_out" => move_out(alloc, stage, values),
-        "move_in" => move_in(alloc, stage, values),
-        "move_back" => move_back(alloc, stage, values),
-        _ => register_answer(alloc, stage, name, values),
+        "set" | "give_back" => return given_answer(alloc, sheet, stage, name, values),
+        "wait_for" => return wait_for(alloc, sheet, stage, values),
+        _ => stack_answer(sheet, stage, name, values),
     }
+    Ok(())
 }

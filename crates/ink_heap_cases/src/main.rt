@@ -17,33 +17,44 @@ use crate::rows::row_answer;
 use crate::stage::{Stage, answer};
 use crate::values::{name_of, values_of};
 use ink_base::Limits;
+use ink_sheet::Sheet;
 use std::{fs, io};
 
 /// Tells of each line of a file what the row of a built-in method comes to.
-fn tell_rows(rt: &HostRuntime, file: &str, limits: &Limits) -> io::Result<()> {
-    println!(rt; "== {file}")?;
+fn tell_rows(rt: &HostRuntime, sheet: &mut Sheet, file: &str, limits: &Limits) -> io::Result<()> {
     let text = fs::read_to_string(rt, file)?;
+    name_file(sheet, file);
     for line in text.lines() {
-        let told = row_answer(rt.alloc(), limits, line)?;
-        println!(rt; "{line}  =>  {told}")?;
+        sheet.text(line);
+        sheet.text("  =>  ");
+        row_answer(rt.alloc(), sheet, limits, line)?;
+        sheet.text("\n");
     }
     Ok(())
 }
 
+/// The line above what is told of a file.
+fn name_file(sheet: &mut Sheet, file: &str) {
+    sheet.text("== ");
+    sheet.text(file);
+    sheet.text("\n");
+}
+
 /// Tells of each line of a file what the call comes to, one after another.
-fn tell_calls(rt: &HostRuntime, file: &str) -> io::Result<()> {
-    println!(rt; "== {file}")?;
+fn tell_calls(rt: &HostRuntime, sheet: &mut Sheet, file: &str) -> io::Result<()> {
     let text = fs::read_to_string(rt, file)?;
+    name_file(sheet, file);
     let mut stage = Stage::new(rt.alloc());
     for line in text.lines() {
+        sheet.text(line);
         if line.starts_with('#') {
             stage = Stage::new(rt.alloc());
-            println!(rt; "{line}")?;
         } else {
             let values = values_of(rt.alloc(), line, 1)?;
-            let told = answer(rt.alloc(), &mut stage, name_of(line, 0), values)?;
-            println!(rt; "{line}  =>  {told}")?;
+            sheet.text("  =>  ");
+            answer(rt.alloc(), sheet, &mut stage, name_of(line, 0), values)?;
         }
+        sheet.text("\n");
     }
     Ok(())
 }
@@ -56,9 +67,11 @@ fn short_texts() -> Limits {
 }
 
 fn main(rt: HostRuntime) -> io::Result<()> {
-    tell_rows(&rt, "rows", &Limits::defaults())?;
-    tell_rows(&rt, "rows_of_two_texts", &short_texts())?;
-    tell_calls(&rt, "heaps")?;
-    tell_calls(&rt, "parcels")?;
-    tell_calls(&rt, "processes")
+    let mut sheet = Sheet::new(rt.alloc());
+    tell_rows(&rt, &mut sheet, "rows", &Limits::defaults())?;
+    tell_rows(&rt, &mut sheet, "rows_of_two_texts", &short_texts())?;
+    for file in ["heaps", "parcels", "processes"] {
+        tell_calls(&rt, &mut sheet, file)?;
+    }
+    print!(rt; "{}", sheet.whole()?)
 }

@@ -2,11 +2,12 @@
 //! operands.
 
 use crate::values::{name_of, values_of};
-use crate::written::{plain, value_text, wrong_text};
-use ink_base::{Kind, Limits, Value};
+use crate::written::{text, value, wrong};
+use ink_base::{Kind, Limits};
 use ink_code::row_numbers::FIRST_OF_ARRAY;
 use ink_prims::number_of;
 use ink_rows::{Computed, RowFault, value_row};
+use ink_sheet::Sheet;
 use std::alloc::{AllocError, Global};
 
 /// The type of that name.
@@ -19,37 +20,36 @@ fn kind_of(name: &str) -> Kind {
 }
 
 /// What a row came to.
-fn computed_text(alloc: Global, came: Result<Computed, RowFault>) -> Result<String, AllocError> {
+fn computed(sheet: &mut Sheet, came: Result<Computed, RowFault>) {
     match came {
-        Ok(Computed::Gives(value)) => value_text(alloc, &value),
-        Ok(Computed::Raises(text)) => {
-            let told = std::str::from_utf8(text.bytes()).unwrap_or("not UTF-8");
-            format!(in alloc; "panics: {told}")
+        Ok(Computed::Gives(given)) => value(sheet, &given),
+        Ok(Computed::Raises(raised)) => {
+            sheet.text("panics: ");
+            text(sheet, &raised);
         }
-        Err(RowFault::Wrong(why)) => wrong_text(alloc, why),
-        Err(RowFault::OutOfMemory) => plain(alloc, "no memory"),
+        Err(RowFault::Wrong(why)) => wrong(sheet, why),
+        Err(RowFault::OutOfMemory) => sheet.text("no memory"),
     }
 }
 
-/// What the row of that number comes to, where it only computes.
-fn row_text(
+/// What the row comes to that a line names, where it only computes.
+pub fn row_answer(
     alloc: Global,
+    sheet: &mut Sheet,
     limits: &Limits,
-    row: u32,
-    values: &[Value],
-) -> Result<String, AllocError> {
-    if row < FIRST_OF_ARRAY {
-        computed_text(alloc, value_row(alloc, limits, row, values))
-    } else {
-        plain(alloc, "works on objects")
-    }
-}
-
-/// What the row comes to that a line names.
-pub fn row_answer(alloc: Global, limits: &Limits, line: &str) -> Result<String, AllocError> {
+    line: &str,
+) -> Result<(), AllocError> {
     let name = name_of(line, 1);
     match number_of(name.as_bytes(), kind_of(name_of(line, 0))) {
-        None => plain(alloc, "no such method"),
-        Some(row) => row_text(alloc, limits, row, values_of(alloc, line, 2)?.as_slice()),
+        None => sheet.text("no such method"),
+        Some(row) => {
+            let values = values_of(alloc, line, 2)?;
+            if row < FIRST_OF_ARRAY {
+                computed(sheet, value_row(alloc, limits, row, &values));
+            } else {
+                sheet.text("works on objects");
+            }
+        }
     }
+    Ok(())
 }

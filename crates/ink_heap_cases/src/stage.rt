@@ -7,6 +7,7 @@ use ink_base::{Items, Object, Value};
 use ink_heap::Heap;
 use ink_parcel::Parcel;
 use ink_proc::{Frames, Pending};
+use ink_sheet::Sheet;
 use std::alloc::{AllocError, Global};
 
 /// What the calls of a case work on.
@@ -40,12 +41,16 @@ impl Stage {
 /// What the call of that name comes to.
 pub fn answer(
     alloc: Global,
+    sheet: &mut Sheet,
     stage: &mut Stage,
     name: &str,
     values: Vec<Value>,
-) -> Result<String, AllocError> {
+) -> Result<(), AllocError> {
     match name {
-        "cut" | "join" | "under" => parcel_answer(alloc, stage, name, values),
+        "cut" | "join" | "under" => {
+            parcel_answer(alloc, sheet, stage, name, values);
+            Ok(())
+        }
         "make"
         | "objects"
         | "kind"
@@ -59,7 +64,7 @@ pub fn answer(
         | "end"
         | "free"
         | "take_out"
-        | "put_in" => { heap_answer(alloc, stage, name, values) }
-        _ => frame_answer(alloc, stage, name, values.as_slice()),
+        | "put_in" => { heap_answer(alloc, sheet, stage, name, &values) }
+        _ => frame_answer(alloc, sheet, stage, name, &values),
     }
 }

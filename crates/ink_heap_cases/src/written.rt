@@ -1,66 +1,74 @@
 //! How answers are written.
 
-use ink_base::Value;
+use ink_base::{Text, Value};
 use ink_code::Wrong;
-use std::alloc::{AllocError, Global};
+use ink_sheet::Sheet;
 
-/// A text.
-pub fn plain(alloc: Global, text: &str) -> Result<String, AllocError> {
-    String::from_str(alloc, text)
+/// A text. One that isn't UTF-8 is told to be none.
+pub fn text(sheet: &mut Sheet, text: &Text) {
+    sheet.text(std::str::from_utf8(text.bytes()).unwrap_or("not UTF-8"));
+}
+
+/// A word with a number behind it.
+pub fn numbered(sheet: &mut Sheet, word: &str, number: u64) {
+    sheet.text(word);
+    sheet.plain(&number);
 }
 
 /// A value as the lines of the cases write it.
-pub fn value_text(alloc: Global, value: &Value) -> Result<String, AllocError> {
+pub fn value(sheet: &mut Sheet, value: &Value) {
     match value {
-        Value::Int(number) => format!(in alloc; "{number}"),
-        Value::Bool(truth) => format!(in alloc; "{truth}"),
-        Value::Nil => plain(alloc, "nil"),
-        Value::Txt(text) => {
-            let told = std::str::from_utf8(text.bytes()).unwrap_or("not UTF-8");
-            format!(in alloc; "\"{told}\"")
+        Value::Int(number) => sheet.plain(number),
+        Value::Bool(truth) => sheet.plain(truth),
+        Value::Nil => sheet.text("nil"),
+        Value::Txt(given) => {
+            sheet.text("\"");
+            text(sheet, given);
+            sheet.text("\"");
         }
-        Value::Own(id) => format!(in alloc; "@{}", id.serial),
-        Value::Bor(id) => format!(in alloc; "&{}", id.serial),
-        Value::Proc(process) => format!(in alloc; "process {process}"),
-        Value::Future(future) => format!(in alloc; "future {future}"),
-        Value::Promise(future) => format!(in alloc; "promise {future}"),
-        Value::Empty => plain(alloc, "empty"),
+        Value::Own(id) => numbered(sheet, "@", id.serial),
+        Value::Bor(id) => numbered(sheet, "&", id.serial),
+        Value::Proc(process) => numbered(sheet, "process ", u64::from(*process)),
+        Value::Future(future) => numbered(sheet, "future ", u64::from(*future)),
+        Value::Promise(future) => numbered(sheet, "promise ", u64::from(*future)),
+        Value::Empty => sheet.text("empty"),
     }
 }
 
 /// A value, where there is one.
-pub fn found_text(alloc: Global, value: Option<&Value>) -> Result<String, AllocError> {
-    match value {
-        None => plain(alloc, "none"),
-        Some(value) => value_text(alloc, value),
+pub fn found(sheet: &mut Sheet, given: Option<&Value>) {
+    match given {
+        None => sheet.text("none"),
+        Some(given) => value(sheet, given),
     }
 }
 
 /// A word and the value behind it.
-pub fn with_value(alloc: Global, word: &str, value: &Value) -> Result<String, AllocError> {
-    let told = value_text(alloc, value)?;
-    format!(in alloc; "{word} {told}")
+pub fn with_value(sheet: &mut Sheet, word: &str, given: &Value) {
+    sheet.text(word);
+    sheet.text(" ");
+    value(sheet, given);
 }
 
 /// A word and the values behind it.
-pub fn with_values(alloc: Global, word: &str, values: &[Value]) -> Result<String, AllocError> {
-    let mut text = String::from_str(alloc, word)?;
-    for value in values {
-        text.push_str(" ")?;
-        text.push_str(value_text(alloc, value)?.as_str())?;
+pub fn with_values(sheet: &mut Sheet, word: &str, values: &[Value]) {
+    sheet.text(word);
+    for given in values {
+        sheet.text(" ");
+        value(sheet, given);
     }
-    Ok(text)
 }
 
 /// A number, where there is one.
-pub fn number_text(alloc: Global, number: Option<u64>) -> Result<String, AllocError> {
-    match number {
-        None => plain(alloc, "none"),
-        Some(number) => format!(in alloc; "{number}"),
+pub fn number(sheet: &mut Sheet, given: Option<u64>) {
+    match given {
+        None => sheet.text("none"),
+        Some(given) => sheet.plain(&given),
     }
 }
 
 /// In which way something is wrong.
-pub fn wrong_text(alloc: Global, why: Wrong) -> Result<String, AllocError> {
-    format!(in alloc; "wrong: {why:?}")
+pub fn wrong(sheet: &mut Sheet, why: Wrong) {
+    sheet.text("wrong: ");
+    sheet.shown(&why);
 }

@@ -3,7 +3,7 @@ use ink_code::Wrong;
 use ink_parcel::Parcel;
 
 /// The reply of an action.
-#[derive(Debug, Drop)]
+#[derive(Drop)]
 pub enum Reply {
     /// It was made, and nothing comes back.
     Done,
@@ -18,7 +18,7 @@ pub enum Reply {
 }
 
 /// Why a reply wasn't put in its place.
-#[derive(Debug, Drop)]
+#[derive(Drop)]
 pub enum AnswerFault {
     /// The process doesn't wait for it, or the code is wrong in this way. The process isn't used further.
     Wrong(Wrong),

@@ -5,8 +5,8 @@ use crate::limits::{limit_of, limits_with};
 use crate::looks::{all_of, frames, objects, waiting};
 use crate::told::{came, numbered, text_of, wrong_word};
 use crate::words::{first_word, two_numbers, value_of, values};
-use ink_base::{Items, Limits, Object, ObjectId, Value};
-use ink_code::{Code, Frame, listing};
+use ink_base::{Items, Limits, Object, ObjectId, Text, Value};
+use ink_code::{Code, Frame, instr_line, listing};
 use ink_heap::Heap;
 use ink_interp::{AnswerFault, answer, slice, step};
 use ink_proc::Proc;
@@ -81,7 +81,7 @@ impl Bench {
             "waiting" => waiting(sheet, &self.process),
             "steps" => sheet.plain(&self.process.ran),
             "listing" => told_listing(alloc, sheet, &self.code),
-            "fetch" => self.fetch(sheet, rest),
+            "fetch" => self.fetch(alloc, sheet, rest),
             _ => sheet.text(NOT_UNDERSTOOD),
         }
     }
@@ -247,14 +247,22 @@ impl Bench {
     }
 
     /// `METHOD PLACE`: the instruction there.
-    fn fetch(&self, sheet: &mut Sheet, line: &str) {
+    fn fetch(&self, alloc: Global, sheet: &mut Sheet, line: &str) {
         match two_numbers(line) {
             None => sheet.text(NOT_UNDERSTOOD),
             Some((method, place, _)) => match self.code.fetch(method, place) {
                 None => sheet.text("none"),
-                Some(instr) => sheet.shown(instr),
+                Some(instr) => told_instr(sheet, instr_line(alloc, u64::from(place), instr)),
             },
         }
+    }
+}
+
+/// An instruction, as a listing writes it.
+fn told_instr(sheet: &mut Sheet, line: Result<Text, AllocError>) {
+    match line {
+        Err(AllocError) => sheet.text("no memory"),
+        Ok(line) => sheet.text(text_of(&line).trim()),
     }
 }
 

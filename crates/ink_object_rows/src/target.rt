@@ -12,7 +12,7 @@ use ink_rows::texts::index_text;
 use std::alloc::Global;
 
 /// Where a row puts an item.
-#[derive(Debug, Drop)]
+#[derive(Drop)]
 pub(crate) enum Target {
     /// At this index of an array.
     Item { id: ObjectId, index: u64 },

@@ -3,7 +3,7 @@ use ink_code::Wrong;
 use ink_heap::Heap;
 
 /// Why no frame was entered.
-#[derive(Debug, Drop)]
+#[derive(Drop)]
 pub enum EnterFault {
     /// An argument isn't there. Those before it are lost.
     Wrong(Wrong),
@@ -12,7 +12,7 @@ pub enum EnterFault {
 }
 
 /// Why a value doesn't wait to be dropped. All is as before.
-#[derive(Clone, Copy, Debug, PartialEq, Eq)]
+#[derive(Clone, Copy)]
 pub enum WaitFault {
     /// It isn't there.
     Wrong(Wrong),
@@ -20,7 +20,7 @@ pub enum WaitFault {
 }
 
 /// Why an object wasn't taken apart. All is as before.
-#[derive(Clone, Copy, Debug, PartialEq, Eq)]
+#[derive(Clone, Copy)]
 pub enum TakeApartFault {
     /// There is no such object.
     Absent,
@@ -30,7 +30,7 @@ pub enum TakeApartFault {
 }
 
 /// Why no process started.
-#[derive(Debug, Drop)]
+#[derive(Drop)]
 pub enum StartFault {
     /// The objects come back.
     OutOfMemory(Heap),

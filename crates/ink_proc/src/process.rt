@@ -12,7 +12,7 @@ use ink_heap::Heap;
 use std::alloc::Global;
 
 /// A process.
-#[derive(Debug, Drop)]
+#[derive(Drop)]
 pub struct Proc {
     pub number: u32,
     pub kind: u32,

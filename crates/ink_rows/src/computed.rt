@@ -6,7 +6,7 @@ use ink_code::Wrong;
 use std::alloc::AllocError;
 
 /// What a row comes to.
-#[derive(Debug, Drop)]
+#[derive(Drop)]
 pub enum Computed {
     /// A value.
     Gives(Value),
@@ -15,7 +15,7 @@ pub enum Computed {
 }
 
 /// Why a row comes to nothing.
-#[derive(Clone, Copy, Debug, PartialEq, Eq)]
+#[derive(Clone, Copy)]
 pub enum RowFault {
     /// The operands aren't such as the row takes.
     Wrong(Wrong),

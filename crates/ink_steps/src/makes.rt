@@ -15,7 +15,7 @@ use ink_rows::texts::{full_text, passed_text};
 use std::alloc::Global;
 
 /// What a new object is, but for its fields: its type and its tag.
-#[derive(Clone, Copy, Debug)]
+#[derive(Clone, Copy)]
 struct Made {
     kind: u32,
     tag: u32,

@@ -7,7 +7,7 @@ use ink_parcel::Parcel;
 use std::alloc::AllocError;
 
 /// What a step came to.
-#[derive(Debug, Drop)]
+#[derive(Drop)]
 pub enum Stepped {
     /// It was made, and the next one can follow.
     Went,
@@ -20,7 +20,7 @@ pub enum Stepped {
 }
 
 /// An action that a process wants, with the values that go out.
-#[derive(Debug, Drop)]
+#[derive(Drop)]
 pub enum Request {
     Take,
     Print(Text),
@@ -47,7 +47,7 @@ pub enum Request {
 }
 
 /// Why no step was made.
-#[derive(Clone, Copy, Debug, PartialEq, Eq)]
+#[derive(Clone, Copy)]
 pub enum StepFault {
     /// The instruction is wrong in this way. The process isn't used further.
     Wrong(Wrong),
