@@ -1,9 +1,15 @@
 -- What a token says by its spelling.
-use Rattle.std.specs.Prelude.{ℕ, Bool, true, false, ◌&&◌, nat_le, if◌then◌else◌, List, [], ◌∷◌, length, drop, slice_range, unwrap_or, codes}
+use Rattle.std.specs.Prelude.{ℕ, Bool, true, false, ◌&&◌, nat_le, if◌then◌else◌, List, [], ◌∷◌, length, drop, slice_range, unwrap_or, codes, nat_eq}
+use Rattle.std.specs.List.{starts_with}
 use Rattle.std.specs.Str.{bytes_eq}
+use Rattle.ink_base.specs.declared.ident.BorrowKind.{BorrowKind}
+use Rattle.ink_base.specs.declared.ident.BorrowKind.TheVariants as borrow
+use Rattle.ink_grammar.specs.declared.token.Keyword.TheVariants as keyword
 use Rattle.ink_grammar.specs.declared.token.Shape.{Shape}
 use Rattle.ink_grammar.specs.declared.token.Shape.TheVariants as shape
 use Rattle.ink_grammar.specs.declared.token.Terminal.{Terminal}
+use Rattle.ink_forms.specs.declared.expr.Operator.{Operator}
+use Rattle.ink_forms.specs.declared.expr.Operator.TheVariants as operator
 use Rattle.ink_forms.specs.declared.word.Identifier.{Identifier}
 use Rattle.ink_forms.specs.declared.word.Literal.{Literal}
 use Rattle.ink_forms.specs.declared.word.Literal.TheVariants as literal
@@ -72,3 +78,33 @@ made_of x token =
     else if bytes_eq bytes (codes "Ok") then made.Ok
     else if bytes_eq bytes (codes "Error") then made.Error
     else made.Named (name x token)
+
+-- the kind of a borrow, by its word
+unfoldable pub borrow_kind : Shape → BorrowKind
+borrow_kind (shape.Keyword keyword.Mut) = borrow.Mut
+borrow_kind _ = borrow.Ref
+
+-- the operator that bytes begin with
+abbrev pub operator_in : List ℕ → Operator
+operator_in bytes =
+    if starts_with nat_eq bytes (codes "==") then operator.Equal
+    else if starts_with nat_eq bytes (codes "!=") then operator.NotEqual
+    else if starts_with nat_eq bytes (codes "<=") then operator.LessOrEqual
+    else if starts_with nat_eq bytes (codes ">=") then operator.GreaterOrEqual
+    else if starts_with nat_eq bytes (codes "<<") then operator.ShiftLeft
+    else if starts_with nat_eq bytes (codes ">>") then operator.ShiftRight
+    else if starts_with nat_eq bytes (codes "+") then operator.Add
+    else if starts_with nat_eq bytes (codes "-") then operator.Subtract
+    else if starts_with nat_eq bytes (codes "*") then operator.Multiply
+    else if starts_with nat_eq bytes (codes "/") then operator.Divide
+    else if starts_with nat_eq bytes (codes "%") then operator.Remainder
+    else if starts_with nat_eq bytes (codes "<") then operator.Less
+    else if starts_with nat_eq bytes (codes ">") then operator.Greater
+    else if starts_with nat_eq bytes (codes "&") then operator.And
+    else if starts_with nat_eq bytes (codes "|") then operator.Or
+    else if starts_with nat_eq bytes (codes "^") then operator.ExclusiveOr
+    else operator.Add
+
+-- the operator of a token, or what stands before its =
+unfoldable pub operator_of : Surface → Terminal → Operator
+operator_of x token = operator_in (spelling x.source.now token)

@@ -68,9 +68,5 @@ unfoldable mutual
   pub fields_onto : Surface → Tree → FieldPats → FieldPats
   fields_onto x (Two two_of.More start list (Two two_of.FieldPattern at named part)) more =
       fields_onto x list (AndField (identifier x (token_of named)) (pattern x part) more)
-  fields_onto x (Two two_of.More start list item) more = fields_onto x list more
+  fields_onto x (Two two_of.More start list item) more = fields_onto x list (AndField (identifier x (token_of item)) (pattern x item) more)
   fields_onto x _ more = more
-
--- a pattern of two
-abbrev pub pair : Surface → ℕ → Tree → Tree → Pat
-pair x start a b = Constructor (here start) made.Tuple2 (AndPat (pattern x a) (AndPat (pattern x b) NoPat))
