@@ -2,6 +2,7 @@
 ghost use Rattle.std.specs.Prelude.{◌≡◌, length, IfOk};
 
 use ink_base::{Items, Text, Value};
+use ink_code::row_numbers::{INT_ADD, INT_LESS};
 use ink_code::{Code, Frame, Instr, Method};
 use ink_heap::Heap;
 use ink_proc::{Frames, Pending, Proc};
@@ -21,11 +22,6 @@ const LEFT: u32 = 3;
 const RIGHT: u32 = 4;
 
 const GOES_ON: u32 = 5;
-
-/// The rows of Int that the loop uses: `+` and `<`.
-const PLUS: u32 = 0;
-
-const LESS: u32 = 7;
 
 /// The places where the loop begins, and where it counts.
 const TEST: u32 = 3;
@@ -48,8 +44,8 @@ fn row(alloc: Global, row: u32, to: u32) -> Result<Instr, AllocError> {
 fn body(alloc: Global) -> Result<Vec<Instr>, AllocError>
     ensures { IfOk result (λ body. length body.items ≡ 12) }
 {
-    let less = row(alloc, LESS, GOES_ON)?;
-    let plus = row(alloc, PLUS, COUNTER)?;
+    let less = row(alloc, INT_LESS, GOES_ON)?;
+    let plus = row(alloc, INT_ADD, COUNTER)?;
     Ok(vec![in alloc;
         Instr::Const {
             to: COUNTER,

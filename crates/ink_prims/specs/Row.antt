@@ -51,7 +51,7 @@ operands_of [] = None ∷ None ∷ []
 operands_of (first ∷ []) = Some first ∷ None ∷ []
 operands_of (first ∷ second ∷ others) = Some first ∷ Some second ∷ []
 
--- a row of the definitions as it is kept: all of it but its panics
+-- a row of the definitions as it is kept
 unfoldable pub row_of : KnownRow → RowView
 row_of row =
     record {
