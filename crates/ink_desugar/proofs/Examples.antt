@@ -32,7 +32,7 @@ loop_of_one x a = refl
 if_alone : (x : Surface) (c a : Tree) →
     value x (Four four_of.If 3 Missing c a Missing)
     ≡ Match (here 3) choice.If (value x c)
-        (AndArm (LitPat (here 3) (literal.Bool true)) Always (Drop (here 3) (value x a)) (AndArm (LitPat (here 3) (literal.Bool false)) Always (nil 3) NoArm))
+    (AndArm (LitPat (here 3) (literal.Bool true)) Always (Drop (here 3) (value x a)) (AndArm (LitPat (here 3) (literal.Bool false)) Always (nil 3) NoArm))
 unfolding value
 if_alone x c a = refl
 
