@@ -1,0 +1,4 @@
+pub mod TypeTerms
+pub mod Table
+pub mod Codes
+pub mod Matching
