@@ -1,15 +1,12 @@
 //! Declarations.
-use crate::depth::DEEPEST;
 use crate::methods::{identifiers, method, mode_of, parameters, type_parameters};
-use crate::surface::Surface;
-use crate::trees::{has_word, is_written, items_of, token_of};
-use crate::types::{optional_type, types, written_type};
-use crate::words::identifier;
 use ink_forms::{
     Arena, Constructor, Declaration, Declarations, Field, Implementation, Import, Member,
     MethodDeclaration, Trait, TraitMethod, TypeDeclaration, TypeForm,
 };
 use ink_grammar::{FiveChildren, FourChildren, Keyword, Node, ThreeChildren, TwoChildren};
+use ink_lexicon::{Surface, has_word, identifier, is_written, items_of, token_of};
+use ink_patterns::{DEEPEST, optional_type, types, written_type};
 use std::alloc::AllocError;
 
 /// The imports of a list.
@@ -214,6 +211,23 @@ fn implementation(
     })
 }
 
+/// A trait: its words, its name and its methods.
+fn trait_of(
+    surface: &Surface,
+    arena: &mut Arena,
+    start: u32,
+    parts: [u32; 3],
+) -> Result<Trait, AllocError> {
+    let is_public = has_word(surface.alloc, surface.module, parts[0], Keyword::Pub)?;
+    let methods = trait_methods(surface, arena, parts[2])?;
+    Ok(Trait {
+        start,
+        is_public,
+        name: identifier(surface, token_of(surface.module, parts[1])),
+        methods,
+    })
+}
+
 /// A declaration. A node that is none makes none.
 fn declaration(
     surface: &Surface,
@@ -232,14 +246,8 @@ fn declaration(
             Ok(Some(Declaration::Type(made)))
         }
         Some(Node::Four(FourChildren::Trait, start, _, words, named, list)) => {
-            let is_public = has_word(surface.alloc, surface.module, words, Keyword::Pub)?;
-            let methods = trait_methods(surface, arena, list)?;
-            Ok(Some(Declaration::Trait(Trait {
-                start,
-                is_public,
-                name: identifier(surface, token_of(surface.module, named)),
-                methods,
-            })))
+            let made = trait_of(surface, arena, start, [words, named, list])?;
+            Ok(Some(Declaration::Trait(made)))
         }
         Some(Node::Four(FourChildren::Implementation, start, _, a, b, c)) => {
             let made = implementation(surface, arena, start, [a, b, c])?;

@@ -2,18 +2,19 @@
 ghost use Rattle.std.specs.Prelude.{◌≤◌, ◌<◌, All, IfOk};
 ghost use Rattle.ink_forms.specs.Views as view;
 
-use crate::depth::DEEPEST;
-use crate::surface::Surface;
-use crate::trees::{has_word, is_written, items_of, token_of};
-use crate::types::{optional_type, written_type};
-use crate::values::block;
-use crate::words::identifier;
 use ink_forms::{
     Arena, ExprId, Identifier, Method, MethodDeclaration, MethodId, Mode, Parameter, ParameterId,
     TypeParameter,
 };
 use ink_grammar::{FourChildren, Keyword, Module, Node, TwoChildren};
+use ink_lexicon::{Surface, has_word, identifier, is_written, items_of, token_of};
+use ink_patterns::{DEEPEST, optional_type, written_type};
+use ink_values::value;
 use std::alloc::AllocError;
+
+/// How many values may stand in one another, so that none exhausts the stack: one is at most three calls deep. A module
+/// whose heights are in their limit has fewer.
+const DEEPEST_VALUE: u32 = 1024;
 
 /// The names of a list.
 pub(crate) fn identifiers(surface: &Surface, list: u32) -> Result<Vec<Identifier>, AllocError> {
@@ -132,7 +133,7 @@ pub(crate) fn method(
     start: u32,
     words: u32,
     signature: u32,
-    body: u32,
+    block: u32,
 ) -> Result<MethodDeclaration, AllocError>
     ensures grows { view.count arena.old ≤ view.count arena.new }
 {
@@ -145,7 +146,7 @@ pub(crate) fn method(
     let result = optional_type(surface, arena, parts[3])?;
     let numbers = parameters(surface, arena, parts[2])?;
     let is_given_up = !is_written(surface.module, parts[3]);
-    let body = block(surface, arena, DEEPEST, is_given_up, body)?;
+    let body = value(surface, arena, DEEPEST_VALUE, is_given_up, block)?;
     let method = push_method(arena, start, name.place, mode, is_async, &numbers, body)?;
     Ok(MethodDeclaration {
         method,

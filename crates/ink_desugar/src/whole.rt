@@ -1,55 +1,11 @@
 //! The core form of a module.
 use crate::declarations::declarations;
-use crate::surface::Surface;
-use crate::words::{Words, name_spelling, spelling};
 use ink_forms::Arena;
-use ink_grammar::{Module, Node, Shape, Terminal};
+use ink_grammar::Module;
+use ink_lexicon::{Surface, Words, words_of};
 use ink_module::CoreModule;
-use ink_tables::{Integers, Lines, Names, Texts, integer_value, unescaped_part};
+use ink_tables::Lines;
 use std::alloc::{AllocError, Global};
-
-/// Gives what a token says its number.
-fn add_word(
-    alloc: Global,
-    source: &[u8],
-    words: &mut Words,
-    token: Terminal,
-) -> Result<(), AllocError> {
-    match token.shape {
-        Shape::Name | Shape::Constant | Shape::Field | Shape::Keyword(_) => {
-            words.names.intern(alloc, name_spelling(source, token))?;
-        }
-        Shape::Integer | Shape::Hexadecimal => {
-            words
-                .integers
-                .intern(integer_value(spelling(source, token)))?;
-        }
-        Shape::TextPart => {
-            let text = unescaped_part(alloc, spelling(source, token))?;
-            words.texts.intern(alloc, text.bytes())?;
-        }
-        _ => {}
-    }
-    Ok(())
-}
-
-/// The words of a module, and those that the table adds.
-fn words_of(alloc: Global, source: &[u8], parsed: &Module) -> Result<Words, AllocError> {
-    let mut words = Words {
-        names: Names::new(alloc),
-        integers: Integers::new(alloc),
-        texts: Texts::new(alloc),
-    };
-    words.names.intern(alloc, b"try")?;
-    words.names.intern(alloc, b"to_string")?;
-    words.texts.intern(alloc, &[])?;
-    for node in parsed.nodes() {
-        if let Node::Leaf(token) = node {
-            add_word(alloc, source, &mut words, *token)?;
-        }
-    }
-    Ok(words)
-}
 
 /// The core form of a module whose words are in this source. Nothing in it needs the source.
 ///

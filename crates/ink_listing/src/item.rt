@@ -18,43 +18,50 @@ pub(crate) enum Item {
     Byte(&'static [u8], u32),
 }
 
-/// The things that one node is listed as, in order.
+/// The things that one node is listed as, in order. Who puts one on it gets no answer: a line for which memory was
+/// wanting stays so, and says it when it is laid on the work.
 #[derive(Drop)]
 pub(crate) struct Line {
     items: Vec<Item>,
+    /// Whether there was memory for all of it.
+    is_whole: bool,
 }
 
 impl Line {
     pub fn new(alloc: Global) -> Line {
         Line {
             items: Vec::new(alloc),
+            is_whole: true,
         }
     }
 
-    pub fn put(&mut self, item: Item) -> Result<(), AllocError> {
-        self.items.push(item)?;
-        Ok(())
+    pub fn put(&mut self, item: Item) {
+        if self.items.push(item).is_err() {
+            self.is_whole = false;
+        }
     }
 
-    pub fn word(&mut self, word: &'static [u8]) -> Result<(), AllocError> {
-        self.put(Item::Word(word))
+    pub fn word(&mut self, word: &'static [u8]) {
+        self.put(Item::Word(word));
     }
 
-    pub fn name(&mut self, name: NameId) -> Result<(), AllocError> {
-        self.put(Item::Name(name))
+    pub fn name(&mut self, name: NameId) {
+        self.put(Item::Name(name));
     }
 
     /// The first byte of a node, and its own place where that is another.
-    pub fn places(&mut self, start: u32, place: u32) -> Result<(), AllocError> {
-        self.put(Item::Byte(b"@", start))?;
-        if start == place {
-            return Ok(());
+    pub fn places(&mut self, start: u32, place: u32) {
+        self.put(Item::Byte(b"@", start));
+        if start != place {
+            self.put(Item::Byte(b"/", place));
         }
-        self.put(Item::Byte(b"/", place))
     }
 
-    /// Puts the things on the work, the first on top.
+    /// Puts the things on the work, the first on top. An `AllocError` is want of memory, also of the line's.
     pub fn lay(&self, work: &mut Vec<Item>) -> Result<(), AllocError> {
+        if !self.is_whole {
+            return Err(AllocError);
+        }
         for item in self.items.iter().rev() {
             work.push(*item)?;
         }

@@ -50,13 +50,13 @@ fn put_item(core: &CoreModule, item: Item, out: &mut Vec<u8>) -> Result<(), Allo
 }
 
 /// How a node is listed, or nothing of what is none.
-fn line_of(alloc: Global, core: &CoreModule, item: Item) -> Result<Line, AllocError> {
+fn line_of(alloc: Global, core: &CoreModule, item: Item) -> Line {
     match item {
         Item::Expr(number) => expr_line(alloc, &core.arena, number),
         Item::Pattern(number) => pattern_line(alloc, &core.arena, number),
         Item::Written(number) => written_line(alloc, &core.arena, number),
         Item::Parameter(number) => parameter_line(alloc, &core.arena, number),
-        _ => Ok(Line::new(alloc)),
+        _ => Line::new(alloc),
     }
 }
 
@@ -74,8 +74,7 @@ pub(crate) fn list(
             None => return Ok(()),
             Some(item) => {
                 put_item(core, item, out)?;
-                let line = line_of(alloc, core, item)?;
-                line.lay(&mut work)?;
+                line_of(alloc, core, item).lay(&mut work)?;
             }
         }
     }
@@ -91,6 +90,6 @@ pub fn list_expr(
     out: &mut Vec<u8>,
 ) -> Result<(), AllocError> {
     let mut line = Line::new(alloc);
-    line.put(Item::Expr(number))?;
+    line.put(Item::Expr(number));
     list(alloc, core, &line, out)
 }

@@ -1,0 +1,8 @@
+use Rattle.std.proofs.Common.{◌≡◌, ◌++◌, map, reverse}
+use Rattle.ink_grammar.specs.Views.{tree_at}
+use Rattle.ink_lexicon.specs.Trees.{alternatives_of}
+use Rattle.ink_lexicon.proofs.trees.alternatives_backwards.Given as goal
+
+-- what is left, and the alternatives behind it
+abbrev pub invariant-loop : goal.invariant-loop
+invariant-loop l = alternatives_of (tree_at l.parsed l.rest) ++ map (tree_at l.parsed) (reverse l.items.items) ≡ alternatives_of (tree_at l.parsed l.pattern)

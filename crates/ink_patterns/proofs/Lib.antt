@@ -1,0 +1,4 @@
+pub mod Numbered
+pub mod Made
+pub mod Listed
+pub mod Next
