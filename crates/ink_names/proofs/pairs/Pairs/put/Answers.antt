@@ -1,0 +1,4 @@
+use Rattle.ink_names.proofs.pairs.Pairs.put.Goals as goal
+
+pub returns-clause-others : goal.returns-clause-others
+returns-clause-others c = λ a b apart. c.in_ok-insert.ensures.updates.2 (a, b) apart
