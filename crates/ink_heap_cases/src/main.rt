@@ -5,19 +5,20 @@
 //! is printed beside its line, for a comparison.
 #![tactic(auto)]
 
+mod answers;
 mod frames;
 mod heaps;
 mod parcels;
 mod rows;
 mod stage;
 mod values;
-mod written;
+mod waiting;
 
+use crate::answers::answer;
 use crate::rows::row_answer;
-use crate::stage::{Stage, answer};
-use crate::values::{name_of, values_of};
-use ink_base::Limits;
-use ink_sheet::Sheet;
+use crate::stage::Stage;
+use ink_base::{Limit, Limits};
+use ink_sheet::{Sheet, behind};
 use std::{fs, io};
 
 /// Tells of each line of a file what the row of a built-in method comes to.
@@ -47,12 +48,11 @@ fn tell_calls(rt: &HostRuntime, sheet: &mut Sheet, file: &str) -> io::Result<()>
     let mut stage = Stage::new(rt.alloc());
     for line in text.lines() {
         sheet.text(line);
-        if line.starts_with('#') {
+        if behind(line, "#").is_some() {
             stage = Stage::new(rt.alloc());
         } else {
-            let values = values_of(rt.alloc(), line, 1)?;
             sheet.text("  =>  ");
-            answer(rt.alloc(), sheet, &mut stage, name_of(line, 0), values)?;
+            answer(rt.alloc(), sheet, &mut stage, line)?;
         }
         sheet.text("\n");
     }
@@ -61,9 +61,8 @@ fn tell_calls(rt: &HostRuntime, sheet: &mut Sheet, file: &str) -> io::Result<()>
 
 /// The usual limits, but for texts, which have at most five bytes.
 fn short_texts() -> Limits {
-    let mut numbers = [1; 14];
-    numbers[6] = 5;
-    Limits::new(numbers).unwrap_or(Limits::defaults())
+    let usual = Limits::defaults();
+    usual.with(Limit::Text, 5).unwrap_or(usual)
 }
 
 fn main(rt: HostRuntime) -> io::Result<()> {

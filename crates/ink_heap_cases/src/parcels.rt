@@ -2,8 +2,7 @@
 ghost use Rattle.std.specs.Prelude.{◌≡◌};
 
 use crate::stage::Stage;
-use crate::values::first_id;
-use crate::written::with_values;
+use crate::values::{id_at, told_values, value_at, values_from};
 use ink_base::{Items, Value};
 use ink_heap::Heap;
 use ink_parcel::{CutFault, JoinFault, Parcel, cut, is_under, join};
@@ -11,16 +10,26 @@ use ink_sheet::Sheet;
 use std::alloc::{AllocError, Global};
 
 /// `cut @1 nil`: the trees of the values are cut out of the heap.
-fn cut_answer(alloc: Global, sheet: &mut Sheet, stage: &mut Stage, values: Vec<Value>) {
-    match cut(alloc, &mut stage.heap, Items::of(values)) {
+pub fn cut_out(
+    alloc: Global,
+    sheet: &mut Sheet,
+    stage: &mut Stage,
+    line: &str,
+) -> Result<(), AllocError> {
+    match cut(
+        alloc,
+        &mut stage.heap,
+        Items::of(values_from(alloc, line, 1)?),
+    ) {
         Ok(parcel) => {
-            sheet.plain(&parcel.object_count());
-            with_values(sheet, " objects of", parcel.values());
+            sheet.number(parcel.object_count());
+            told_values(sheet, " objects of", parcel.values());
             stage.parcel = Some(parcel);
         }
-        Err(CutFault::Absent(values)) => with_values(sheet, "absent, back", values.as_slice()),
-        Err(CutFault::OutOfMemory(_)) => sheet.text("no memory"),
+        Err(CutFault::Absent(values)) => told_values(sheet, "absent, back", values.as_slice()),
+        Err(CutFault::OutOfMemory(_)) => return Err(AllocError),
     }
+    Ok(())
 }
 
 /// A new heap with the objects of a parcel, and its values.
@@ -31,7 +40,7 @@ fn joined(alloc: Global, parcel: Parcel) -> Result<(Heap, Items<Value>), JoinFau
 }
 
 /// `join`: a new heap stands in the place of the old one, to which the parcel is joined.
-fn join_answer(alloc: Global, sheet: &mut Sheet, stage: &mut Stage) {
+pub fn join_all(alloc: Global, sheet: &mut Sheet, stage: &mut Stage) {
     let Some(parcel) = stage.parcel.take() else {
         return sheet.text("nothing was cut");
     };
@@ -39,33 +48,14 @@ fn join_answer(alloc: Global, sheet: &mut Sheet, stage: &mut Stage) {
         Err(_) => sheet.text("no memory"),
         Ok((heap, values)) => {
             stage.heap = heap;
-            with_values(sheet, "joined", values.as_slice());
+            told_values(sheet, "joined", values.as_slice());
         }
     }
 }
 
 /// `under @4 @1`: whether object 4 is in the tree of a value.
-fn under_answer(alloc: Global, sheet: &mut Sheet, heap: &Heap, values: &[Value]) {
-    match values.get(1) {
-        None => sheet.text("under what"),
-        Some(value) => match is_under(alloc, heap, &first_id(values), value) {
-            Ok(is_there) => sheet.plain(&is_there),
-            Err(AllocError) => sheet.text("no memory"),
-        },
-    }
-}
-
-/// What the call of that name comes to.
-pub fn parcel_answer(
-    alloc: Global,
-    sheet: &mut Sheet,
-    stage: &mut Stage,
-    name: &str,
-    values: Vec<Value>,
-) {
-    match name {
-        "cut" => cut_answer(alloc, sheet, stage, values),
-        "join" => join_answer(alloc, sheet, stage),
-        _ => under_answer(alloc, sheet, &stage.heap, &values),
-    }
+pub fn under(alloc: Global, sheet: &mut Sheet, heap: &Heap, line: &str) -> Result<(), AllocError> {
+    let value = value_at(alloc, line, 2)?;
+    sheet.truth(is_under(alloc, heap, &id_at(line, 1), &value)?);
+    Ok(())
 }

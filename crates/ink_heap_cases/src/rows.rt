@@ -1,33 +1,34 @@
 //! The rows of Int, Bool and String: a line names the type and the method, and its values are the receiver and the
 //! operands.
 
-use crate::values::{name_of, values_of};
-use crate::written::{text, value, wrong};
+use crate::stage::told_wrong;
+use crate::values::{told_value, values_from};
 use ink_base::{Kind, Limits};
 use ink_code::row_numbers::FIRST_OF_ARRAY;
 use ink_prims::number_of;
 use ink_rows::{Computed, RowFault, value_row};
-use ink_sheet::Sheet;
+use ink_sheet::{Sheet, word_at};
 use std::alloc::{AllocError, Global};
 
-/// The type of that name.
-fn kind_of(name: &str) -> Kind {
-    match name {
+/// The number of the row that a line names.
+fn row_of(line: &str) -> Option<u32> {
+    let kind = match word_at(line, 0) {
         "Int" => Kind::Int,
         "Bool" => Kind::Bool,
         _ => Kind::Str,
-    }
+    };
+    number_of(word_at(line, 1).as_bytes(), kind)
 }
 
 /// What a row came to.
-fn computed(sheet: &mut Sheet, came: Result<Computed, RowFault>) {
+fn told_row(sheet: &mut Sheet, came: Result<Computed, RowFault>) {
     match came {
-        Ok(Computed::Gives(given)) => value(sheet, &given),
+        Ok(Computed::Gives(given)) => told_value(sheet, &given),
         Ok(Computed::Raises(raised)) => {
             sheet.text("panics: ");
-            text(sheet, &raised);
+            sheet.bytes(raised.bytes(), "not UTF-8");
         }
-        Err(RowFault::Wrong(why)) => wrong(sheet, why),
+        Err(RowFault::Wrong(why)) => told_wrong(sheet, why),
         Err(RowFault::OutOfMemory) => sheet.text("no memory"),
     }
 }
@@ -39,17 +40,13 @@ pub fn row_answer(
     limits: &Limits,
     line: &str,
 ) -> Result<(), AllocError> {
-    let name = name_of(line, 1);
-    match number_of(name.as_bytes(), kind_of(name_of(line, 0))) {
+    match row_of(line) {
         None => sheet.text("no such method"),
-        Some(row) => {
-            let values = values_of(alloc, line, 2)?;
-            if row < FIRST_OF_ARRAY {
-                computed(sheet, value_row(alloc, limits, row, &values));
-            } else {
-                sheet.text("works on objects");
-            }
+        Some(row) if row < FIRST_OF_ARRAY => {
+            let values = values_from(alloc, line, 2)?;
+            told_row(sheet, value_row(alloc, limits, row, &values));
         }
+        Some(_) => sheet.text("works on objects"),
     }
     Ok(())
 }

@@ -1,14 +1,12 @@
-//! What the calls of a case work on, and which of them a line is.
+//! What the calls of a case work on.
 
-use crate::frames::frame_answer;
-use crate::heaps::heap_answer;
-use crate::parcels::parcel_answer;
 use ink_base::{Items, Object, Value};
+use ink_code::Wrong;
 use ink_heap::Heap;
 use ink_parcel::Parcel;
 use ink_proc::{Frames, Pending};
 use ink_sheet::Sheet;
-use std::alloc::{AllocError, Global};
+use std::alloc::Global;
 
 /// What the calls of a case work on.
 #[derive(Drop)]
@@ -38,33 +36,12 @@ impl Stage {
     }
 }
 
-/// What the call of that name comes to.
-pub fn answer(
-    alloc: Global,
-    sheet: &mut Sheet,
-    stage: &mut Stage,
-    name: &str,
-    values: Vec<Value>,
-) -> Result<(), AllocError> {
-    match name {
-        "cut" | "join" | "under" => {
-            parcel_answer(alloc, sheet, stage, name, values);
-            Ok(())
-        }
-        "make"
-        | "objects"
-        | "kind"
-        | "size"
-        | "count"
-        | "read"
-        | "write"
-        | "append"
-        | "chop"
-        | "borrow"
-        | "end"
-        | "free"
-        | "take_out"
-        | "put_in" => { heap_answer(alloc, sheet, stage, name, &values) }
-        _ => frame_answer(alloc, sheet, stage, name, &values),
-    }
+/// In which way something is wrong.
+pub fn told_wrong(sheet: &mut Sheet, why: Wrong) {
+    sheet.text(match why {
+        Wrong::Empty => "wrong: Empty",
+        Wrong::Kind => "wrong: Kind",
+        Wrong::Object => "wrong: Object",
+        Wrong::Absent => "wrong: Absent",
+    });
 }

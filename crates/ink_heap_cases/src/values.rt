@@ -1,131 +1,101 @@
-//! Values, as the lines of the cases write them.
+//! Values, as the lines of the cases write them, and as the answers do.
 
 use ink_base::{ObjectId, Text, Value};
+use ink_sheet::{Sheet, behind, number_in, quoted_in, signed_in, word_at, words_from};
 use std::alloc::{AllocError, Global};
 
-/// The name of an object of process 1.
-pub fn named(serial: u64) -> ObjectId {
-    ObjectId { process: 1, serial }
-}
-
-/// The byte that a letter behind a backslash stands for.
-fn escaped(byte: u8) -> u8 {
-    match byte {
-        b's' => b' ',
-        // No text of UTF-8 has it.
-        b'F' => 0xFF,
-        other => other,
+/// The object of process 1 that a number names. Where it is none, an object that no case makes.
+fn object_of(number: &str) -> ObjectId {
+    ObjectId {
+        process: 1,
+        serial: number_in(number).unwrap_or(0),
     }
 }
 
-/// The bytes that stand between quotes.
-fn bytes_of(alloc: Global, text: &str) -> Result<Vec<u8>, AllocError> {
-    let mut bytes = Vec::new(alloc);
-    let mut is_escaped = false;
-    for byte in text.as_bytes() {
-        if is_escaped {
-            bytes.push(escaped(*byte))?;
-            is_escaped = false;
-        } else if *byte == b'\\' {
-            is_escaped = true;
-        } else {
-            bytes.push(*byte)?;
-        }
-    }
-    Ok(bytes)
+/// The object whose owner stands in a line at an index.
+pub fn id_at(line: &str, index: usize) -> ObjectId {
+    object_of(behind(word_at(line, index), "@").unwrap_or(""))
 }
 
-/// The object that a number names, where it is one.
-fn object_of(number: &str) -> Option<ObjectId> {
-    match number.parse::<u64>() {
-        Ok(serial) => Some(named(serial)),
-        Err(_) => None,
-    }
-}
-
-/// The value that a word without quotes stands for: an Int, `true`, `false`, `nil`, `@1` for the owner of object 1, and
-/// `&1` for a borrow of it. Another word is no value.
+/// The value that a word without a sign in front stands for: an Int, `true`, `false` or `nil`. Another word is no value.
 fn plain_value(word: &str) -> Value {
-    if let Some(number) = word.strip_prefix('@') {
-        return object_of(number).map_or(Value::Empty, |id| Value::Own(id));
-    }
-    if let Some(number) = word.strip_prefix('&') {
-        return object_of(number).map_or(Value::Empty, |id| Value::Bor(id));
-    }
     match word {
         "true" => Value::Bool(true),
         "false" => Value::Bool(false),
         "nil" => Value::Nil,
-        _ => word
-            .parse::<i64>()
-            .map_or(Value::Empty, |number| Value::Int(number)),
+        _ => match signed_in(word) {
+            Some(number) => Value::Int(number),
+            None => Value::Empty,
+        },
     }
 }
 
-/// The value that a word stands for. In a text in quotes, `\s` stands for a space and `\F` for the byte 0xFF.
+/// The value that a word stands for. `@1` is the owner of object 1 and `&1` a borrow of it, and quotes are around a text.
 fn value_of(alloc: Global, word: &str) -> Result<Value, AllocError> {
-    match word.strip_prefix('"') {
-        None => Ok(plain_value(word)),
-        Some(rest) => {
-            let bytes = bytes_of(alloc, rest.strip_suffix('"').unwrap_or(rest))?;
-            Ok(Value::Txt(Text::from_bytes(bytes)))
-        }
+    if let Some(number) = behind(word, "@") {
+        return Ok(Value::Own(object_of(number)));
     }
+    if let Some(number) = behind(word, "&") {
+        return Ok(Value::Bor(object_of(number)));
+    }
+    if behind(word, "\"").is_some() {
+        return Ok(Value::Txt(Text::from_bytes(quoted_in(alloc, word)?)));
+    }
+    Ok(plain_value(word))
 }
 
-/// The word of a line at an index, counted from 0.
-pub fn name_of(line: &str, index: usize) -> &str {
-    line.split_whitespace().nth(index).unwrap_or("")
+/// The value of the word at an index.
+pub fn value_at(alloc: Global, line: &str, index: usize) -> Result<Value, AllocError> {
+    value_of(alloc, word_at(line, index))
 }
 
-/// The values that the words of a line stand for, behind so many first words.
-pub fn values_of(alloc: Global, line: &str, names: usize) -> Result<Vec<Value>, AllocError> {
+/// The values of the words of a line from an index on.
+pub fn values_from(alloc: Global, line: &str, index: usize) -> Result<Vec<Value>, AllocError> {
     let mut values = Vec::new(alloc);
-    for word in line.split_whitespace().skip(names) {
+    for word in words_from(alloc, line, index)? {
         values.push(value_of(alloc, word)?)?;
     }
     Ok(values)
 }
 
-/// The number at an index among values, and 0 where none stands there.
-pub fn number_at(values: &[Value], index: usize) -> u64 {
-    match values.get(index) {
-        Some(Value::Int(number)) => u64::try_from(*number).unwrap_or(0),
-        _ => 0,
+/// Writes a value as the lines of the cases do. A text that isn't UTF-8 is told to be none.
+pub fn told_value(sheet: &mut Sheet, value: &Value) {
+    match value {
+        Value::Int(number) => sheet.signed(*number),
+        Value::Bool(truth) => sheet.truth(*truth),
+        Value::Nil => sheet.text("nil"),
+        Value::Txt(text) => {
+            sheet.text("\"");
+            sheet.bytes(text.bytes(), "not UTF-8");
+            sheet.text("\"");
+        }
+        Value::Own(id) => sheet.numbered("@", id.serial),
+        Value::Bor(id) => sheet.numbered("&", id.serial),
+        Value::Proc(process) => sheet.numbered("process ", u64::from(*process)),
+        Value::Future(future) => sheet.numbered("future ", u64::from(*future)),
+        Value::Promise(future) => sheet.numbered("promise ", u64::from(*future)),
+        Value::Empty => sheet.text("empty"),
     }
 }
 
-/// The same, as the number of a register, a method or a row.
-pub fn small_at(values: &[Value], index: usize) -> u32 {
-    u32::try_from(number_at(values, index)).unwrap_or(0)
-}
-
-/// The object that the first of the values owns.
-pub fn first_id(values: &[Value]) -> ObjectId {
-    match values.first() {
-        Some(Value::Own(id)) => *id,
-        _ => named(0),
+/// Writes a value, where there is one.
+pub fn told_found(sheet: &mut Sheet, given: Option<&Value>) {
+    match given {
+        None => sheet.text("none"),
+        Some(given) => told_value(sheet, given),
     }
 }
 
-/// Copies of the values behind so many first ones.
-pub fn behind(alloc: Global, values: &[Value], first: usize) -> Result<Vec<Value>, AllocError> {
-    let mut others = Vec::new(alloc);
-    for value in values.iter().skip(first) {
-        others.push(value.copy(alloc)?)?;
-    }
-    Ok(others)
+/// Writes words and the value behind them.
+pub fn told_with(sheet: &mut Sheet, words: &str, value: &Value) {
+    sheet.text(words);
+    told_value(sheet, value);
 }
 
-/// The numbers behind so many first values.
-pub fn numbers_behind(
-    alloc: Global,
-    values: &[Value],
-    first: usize,
-) -> Result<Vec<u32>, AllocError> {
-    let mut numbers = Vec::new(alloc);
-    for index in first..values.len() {
-        numbers.push(small_at(values, index))?;
+/// Writes words and the values behind them.
+pub fn told_values(sheet: &mut Sheet, words: &str, values: &[Value]) {
+    sheet.text(words);
+    for value in values {
+        told_with(sheet, " ", value);
     }
-    Ok(numbers)
 }

@@ -40,21 +40,19 @@ pub(crate) fn take_message(
     requires { AreApartFrom proc.old.heap.objects parcel.objects }
     ensures { AnswersReply (after_taken code.now method parcel (state_of proc.old)) result (OneReply.Message method parcel) (state_of proc.old) (state_of proc.new) }
 {
-    let registers = match code.methods.get(u64::from(method)) {
-        None => return Err(AnswerFault::Wrong(Wrong::Absent)),
-        Some(called) => called.registers,
+    let Some(called) = code.methods.get(u64::from(method)) else {
+        return Err(AnswerFault::Wrong(Wrong::Absent));
     };
+    let registers = called.registers;
     let state = ObjectId {
         process: proc.number,
         serial: 1,
     };
-    match proc.heap.count(&state) {
-        None => return Err(AnswerFault::Wrong(Wrong::Object)),
-        Some(count) => {
-            if count >= MOST_BORROWS {
-                return Err(AnswerFault::OutOfMemory(Reply::Message { method, parcel }));
-            }
-        }
+    let Some(borrows) = proc.heap.count(&state) else {
+        return Err(AnswerFault::Wrong(Wrong::Object));
+    };
+    if borrows >= MOST_BORROWS {
+        return Err(AnswerFault::OutOfMemory(Reply::Message { method, parcel }));
     }
     let count = parcel.values().len() as u64 + 1;
     let Ok((frames, room)) = rooms(alloc, registers, count) else {
@@ -64,12 +62,10 @@ pub(crate) fn take_message(
         return Err(AnswerFault::OutOfMemory(Reply::Message { method, parcel }));
     }
     proc.heap.count_up(&state);
-    match join(&mut proc.heap, parcel) {
-        Err(_) => unreachable!(),
-        Ok(values) => {
-            proc.frames = Frames::first(frames, room, method, registers, Value::Bor(state), values);
-            proc.ran = 0;
-            Ok(())
-        }
-    }
+    let Ok(values) = join(&mut proc.heap, parcel) else {
+        unreachable!()
+    };
+    proc.frames = Frames::first(frames, room, method, registers, Value::Bor(state), values);
+    proc.ran = 0;
+    Ok(())
 }

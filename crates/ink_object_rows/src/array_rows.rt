@@ -6,13 +6,14 @@ ghost use Rattle.ink_object_rows.specs.Answers.{Does};
 use crate::items::{lent_item, pop_item};
 use crate::making::{give_lent, give_option};
 use crate::receiver::{end_borrow, lone_receiver, receiver};
-use ink_base::{Items, Limits, Object, Value};
+use ink_base::{Items, Limits, Value};
 use ink_code::{ARRAY_KIND, Wrong};
 use ink_proc::{Proc, put_over};
 use ink_rows::operands::{int_of, single};
 use ink_rows::texts::full_text;
 use ink_rows::{Computed, RowFault};
 use std::alloc::Global;
+use std::mem;
 
 /// How many items an array has. An array of more than the greatest Int is answered as out of memory.
 #[tactic(auto, using(crate::proofs::RowLemmas::reads), unfolding(ink_code::specs::Machine::after))]
@@ -99,41 +100,19 @@ pub fn clear_row(alloc: Global, proc: &mut Proc, values: &[Value]) -> Result<Com
     ensures ran { proc.new.ran ≡ proc.old.ran }
 {
     let id = lone_receiver(&proc.heap, ARRAY_KIND, values)?;
-    let Some(object) = proc.heap.take_out(&id) else {
+    let Some(mut object) = proc.heap.take_out(&id) else {
         return Err(RowFault::Wrong(Wrong::Object));
     };
-    let Object {
-        kind,
-        tag,
-        fields,
-        count,
-    } = object;
+    let fields = mem::replace(&mut object.fields, Items::new(alloc));
     match proc.pending.push_all(fields) {
         Err(fields) => {
-            put_over(
-                &mut proc.heap,
-                id,
-                Object {
-                    kind,
-                    tag,
-                    fields,
-                    count,
-                },
-            );
+            object.fields = fields;
+            put_over(&mut proc.heap, id, object);
             Err(RowFault::OutOfMemory)
         }
         Ok(()) => {
-            let fields = Items::new(alloc);
-            put_over(
-                &mut proc.heap,
-                id,
-                Object {
-                    kind,
-                    tag,
-                    fields,
-                    count: count - 1,
-                },
-            );
+            object.count -= 1;
+            put_over(&mut proc.heap, id, object);
             Ok(Computed::Gives(Value::Nil))
         }
     }

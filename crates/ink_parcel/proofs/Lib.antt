@@ -3,7 +3,6 @@ pub mod ExactLemmas
 pub mod JoinedLemmas
 pub mod MovesLemmas
 pub mod OwnedLemmas
-pub mod PartsLemmas
 pub mod PutLemmas
 pub mod UnderLemmas
 pub mod WalkLemmas

@@ -1,8 +1,11 @@
 //! The rows of Int.
 #![tactic(auto, unfolding(ink_code::specs::Machine::after))]
 
-ghost use Rattle.std.specs.Prelude.{◌≡◌};
+ghost use Rattle.std.specs.Prelude.{◌≡◌, ℤ, FitsSigned};
+ghost use Rattle.std.specs.Int.{w64};
+ghost use Rattle.std.specs.Option.{SomeIff};
 ghost use Rattle.ink_code.specs.IntRows.{int_to_string_row, add_row, subtract_row, multiply_row, divide_row, rest_row, equal_row, unequal_row, less_row, at_most_row, greater_row, at_least_row, bit_and_row, bit_or_row, bit_xor_row, int_rows};
+ghost use Rattle.ink_code.specs.Rows.{int_or_overflow};
 ghost use Rattle.ink_rows.specs.Answers.{Answers, TakesNoMemory};
 
 use crate::computed::{Computed, RowFault};
@@ -14,44 +17,46 @@ use ink_code::{Wrong, row_numbers as rows};
 use itoa::Buffer;
 use std::alloc::Global;
 
+/// A number, where it is an Int, or the panic where it is none.
+#[tactic(auto, using(crate::proofs::IntLemmas::fits_is_int, crate::proofs::IntLemmas::unfit_is_no_int))]
+fn int_or_overflow(alloc: Global, number: Option<i64>) -> Result<Computed, RowFault>
+    ensures { (exact : ℤ) → SomeIff number (FitsSigned w64 exact) exact → Answers result (int_or_overflow exact) }
+{
+    match number {
+        Some(number) => Ok(Computed::Gives(Value::Int(number))),
+        None => Ok(Computed::Raises(Text::of(alloc, b"integer overflow")?)),
+    }
+}
+
 /// The sum of two Ints. A panic where it is no Int.
-#[tactic(auto, using(crate::proofs::IntLemmas::fits_is_int, crate::proofs::IntLemmas::unfit_is_no_int), unfolding(ink_code::specs::Machine::after, ink_code::specs::IntRows::add_row))]
+#[tactic(auto, unfolding(ink_code::specs::Machine::after, ink_code::specs::IntRows::add_row))]
 fn add(alloc: Global, values: &[Value]) -> Result<Computed, RowFault>
     ensures { Answers result (add_row values.now) }
 {
     let (a, b) = ints(values)?;
-    match a.checked_add(b) {
-        Some(number) => Ok(Computed::Gives(Value::Int(number))),
-        None => Ok(Computed::Raises(Text::of(alloc, b"integer overflow")?)),
-    }
+    int_or_overflow(alloc, a.checked_add(b))
 }
 
 /// A number less another. A panic where it is no Int.
-#[tactic(auto, using(crate::proofs::IntLemmas::fits_is_int, crate::proofs::IntLemmas::unfit_is_no_int), unfolding(ink_code::specs::Machine::after, ink_code::specs::IntRows::subtract_row))]
+#[tactic(auto, unfolding(ink_code::specs::Machine::after, ink_code::specs::IntRows::subtract_row))]
 fn subtract(alloc: Global, values: &[Value]) -> Result<Computed, RowFault>
     ensures { Answers result (subtract_row values.now) }
 {
     let (a, b) = ints(values)?;
-    match a.checked_sub(b) {
-        Some(number) => Ok(Computed::Gives(Value::Int(number))),
-        None => Ok(Computed::Raises(Text::of(alloc, b"integer overflow")?)),
-    }
+    int_or_overflow(alloc, a.checked_sub(b))
 }
 
 /// The product of two Ints. A panic where it is no Int.
-#[tactic(auto, using(crate::proofs::IntLemmas::fits_is_int, crate::proofs::IntLemmas::unfit_is_no_int), unfolding(ink_code::specs::Machine::after, ink_code::specs::IntRows::multiply_row))]
+#[tactic(auto, unfolding(ink_code::specs::Machine::after, ink_code::specs::IntRows::multiply_row))]
 fn multiply(alloc: Global, values: &[Value]) -> Result<Computed, RowFault>
     ensures { Answers result (multiply_row values.now) }
 {
     let (a, b) = ints(values)?;
-    match a.checked_mul(b) {
-        Some(number) => Ok(Computed::Gives(Value::Int(number))),
-        None => Ok(Computed::Raises(Text::of(alloc, b"integer overflow")?)),
-    }
+    int_or_overflow(alloc, a.checked_mul(b))
 }
 
 /// A number by another, rounded down. A panic where the other is 0, and where the quotient is no Int.
-#[tactic(auto, using(crate::proofs::IntLemmas::fits_is_int, crate::proofs::IntLemmas::unfit_is_no_int), unfolding(ink_code::specs::Machine::after, ink_code::specs::IntRows::divide_row))]
+#[tactic(auto, unfolding(ink_code::specs::Machine::after, ink_code::specs::IntRows::divide_row))]
 fn divide(alloc: Global, values: &[Value]) -> Result<Computed, RowFault>
     ensures { Answers result (divide_row values.now) }
 {
@@ -59,10 +64,7 @@ fn divide(alloc: Global, values: &[Value]) -> Result<Computed, RowFault>
     if b == 0 {
         return Ok(Computed::Raises(Text::of(alloc, b"division by zero")?));
     }
-    match floor_quotient(a, b) {
-        Some(number) => Ok(Computed::Gives(Value::Int(number))),
-        None => Ok(Computed::Raises(Text::of(alloc, b"integer overflow")?)),
-    }
+    int_or_overflow(alloc, floor_quotient(a, b))
 }
 
 /// What is left beside that quotient. A panic where the other number is 0.

@@ -1,5 +1,5 @@
 //! The texts with which rows and instructions panic, where these tell numbers or limits.
-ghost use Rattle.std.specs.Prelude.{◌≡◌, ◌<◌, ◌++◌, codes, IfNone, IfOk, IsSome, Some};
+ghost use Rattle.std.specs.Prelude.{◌≡◌, ◌<◌, ◌++◌, ◌==◌, codes, if◌then◌else◌, IfNone, IfOk, IsSome, Some};
 ghost use Rattle.std.specs.Fmt.{signed_decimal};
 ghost use Rattle.ink_base.specs.Actions.{reached};
 ghost use Rattle.ink_base.specs.Limits.{panic_text};
@@ -32,21 +32,27 @@ pub fn index_text(alloc: Global, index: i64, size: usize) -> Result<Text, AllocE
     Ok(Text::from_bytes(bytes))
 }
 
+/// The word behind so many borrows.
+fn borrow_word(borrows: u64) -> &'static [u8]
+    ensures { result.now ≡ (if borrows == 1 then codes " borrow" else codes " borrows") }
+{
+    if borrows == 1 {
+        b" borrow"
+    } else {
+        b" borrows"
+    }
+}
+
 /// With which text a row panics that gives up an object of the named type while so many borrows of it live.
 pub fn drop_text(alloc: Global, name: &Text, borrows: u64) -> Result<Text, AllocError>
     ensures { IfOk result (λ text. text ≡ drop_text name.now borrows) }
 {
-    let mut out = Vec::new(alloc);
-    out.extend_from_slice(b"cannot drop ")?;
+    let mut buffer = Buffer::new();
+    let mut out = Vec::from_slice(alloc, b"cannot drop ")?;
     out.extend_from_slice(name.bytes())?;
     out.extend_from_slice(b": ")?;
-    let number = format!(in alloc; "{borrows}")?;
-    out.extend_from_slice(number.as_bytes())?;
-    if borrows == 1 {
-        out.extend_from_slice(b" borrow")?;
-    } else {
-        out.extend_from_slice(b" borrows")?;
-    }
+    out.extend_from_slice(buffer.format(borrows).as_bytes())?;
+    out.extend_from_slice(borrow_word(borrows))?;
     Ok(Text::from_bytes(out))
 }
 
@@ -55,9 +61,9 @@ pub fn limit_text_of(alloc: Global, limit: Limit) -> Result<Text, AllocError>
     requires { IsSome (panic_text limit) }
     ensures { IfOk result (λ text. panic_text limit ≡ Some text) }
 {
-    match limit.panic_text() {
+    match limit_text(alloc, limit)? {
         None => unreachable!(),
-        Some(text) => Text::of(alloc, text.as_bytes()),
+        Some(text) => Ok(text),
     }
 }
 

@@ -5,7 +5,7 @@ ghost use Rattle.ink_code.specs.Calls.{first_register, invoke_bound_step, invoke
 ghost use Rattle.ink_code.specs.Process.{held};
 ghost use Rattle.ink_steps.specs.Answers.{IsStep, MayStep};
 
-use crate::reads::{object_of, register_copy};
+use crate::reads::{object_of, register_value};
 use crate::stepped::{StepFault, Stepped};
 use ink_base::{Limit, Limits, Value};
 use ink_code::{Code, Frame, Impl, Instr, Wrong};
@@ -92,8 +92,7 @@ pub fn invoke_bound_step(
         None => return Err(StepFault::Wrong(Wrong::Absent)),
         Some(first) => first,
     };
-    let named = register_copy(alloc, &proc.frames, first)?;
-    let id = object_of(&named)?;
+    let id = object_of(register_value(&proc.frames, first)?)?;
     let kind = match proc.heap.kind_of(&id) {
         None => return Err(StepFault::Wrong(Wrong::Object)),
         Some((kind, _tag)) => kind,

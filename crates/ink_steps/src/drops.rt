@@ -10,7 +10,7 @@ ghost use Rattle.ink_steps.specs.NextDrop.{first_drop};
 ghost use Rattle.ink_steps.specs.Answers.{Goes, IsStep, MayStep};
 ghost use Rattle.ink_proc.specs.State.{state_of};
 
-use crate::reads::{go_on, owned_object, register_copy};
+use crate::reads::{go_on, owned_object, register_value};
 use crate::stepped::{Request, StepFault, Stepped};
 use ink_base::{ObjectId, Value};
 use ink_code::{Code, Wrong};
@@ -178,8 +178,7 @@ pub fn take_apart_step(
     requires { MayStep proc.old }
     ensures { IsStep (take_apart_step code.now next to.now object) result proc.old proc.new }
 {
-    let owner = register_copy(alloc, &proc.frames, object)?;
-    let id = owned_object(&owner)?;
+    let id = owned_object(register_value(&proc.frames, object)?)?;
     let kind = match proc.heap.kind_of(&id) {
         None => return Err(StepFault::Wrong(Wrong::Object)),
         Some((kind, _tag)) => kind,

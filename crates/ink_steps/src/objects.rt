@@ -77,8 +77,7 @@ pub fn load_step(
     if !proc.frames.has(to) {
         return Err(StepFault::Wrong(Wrong::Absent));
     }
-    let named = register_copy(alloc, &proc.frames, object)?;
-    let id = object_of(&named)?;
+    let id = object_of(register_value(&proc.frames, object)?)?;
     let value = field_of(alloc, &proc.heap, &id, field)?;
     put_copy(proc, next, to, value)
 }
@@ -99,8 +98,7 @@ pub fn load_borrow_step(
     if !proc.frames.has(to) {
         return Err(StepFault::Wrong(Wrong::Absent));
     }
-    let named = register_copy(alloc, &proc.frames, object)?;
-    let id = object_of(&named)?;
+    let id = object_of(register_value(&proc.frames, object)?)?;
     let value = field_of(alloc, &proc.heap, &id, field)?;
     put_copy(proc, next, to, borrow_of(value))
 }
@@ -149,8 +147,7 @@ pub fn store_step(
     if !proc.frames.has(to) {
         return Err(StepFault::Wrong(Wrong::Absent));
     }
-    let named = register_copy(alloc, &proc.frames, object)?;
-    let id = object_of(&named)?;
+    let id = object_of(register_value(&proc.frames, object)?)?;
     let value = register_value(&proc.frames, from)?;
     find_field(&proc.heap, &id, field)?;
     if is_under(alloc, &proc.heap, &id, value)? {

@@ -8,7 +8,7 @@ ghost use Rattle.ink_code.specs.Wanted.{future_get_step, future_new_step, future
 ghost use Rattle.ink_steps.specs.Answers.{Finds, IsCut, IsStep};
 ghost use Rattle.ink_proc.specs.State.{state_of};
 
-use crate::reads::{register_copy, text_of};
+use crate::reads::{register_copy, register_value, text_of};
 use crate::stepped::{Request, StepFault, Stepped};
 use ink_base::{Items, Value};
 use ink_code::{Code, Wrong};
@@ -145,8 +145,7 @@ pub fn send_step(
     if code.methods.get(u64::from(method)).is_none() {
         return Err(StepFault::Wrong(Wrong::Absent));
     }
-    let receiver = register_copy(alloc, &proc.frames, process)?;
-    let to = process_of(&receiver)?;
+    let to = process_of(register_value(&proc.frames, process)?)?;
     let room = Vec::with_capacity(alloc, arguments.len())?;
     let values = proc.frames.take_out(room, arguments)?;
     let values = cut_out(alloc, proc, arguments, values)?;
@@ -163,8 +162,7 @@ pub fn promise_set_step(
 ) -> Result<Stepped, StepFault>
     ensures { IsStep (promise_set_step promise from) result proc.old proc.new }
 {
-    let found = register_copy(alloc, &proc.frames, promise)?;
-    let future = promise_of(&found)?;
+    let future = promise_of(register_value(&proc.frames, promise)?)?;
     let room = Vec::with_capacity(alloc, 1)?;
     proc.frames.take(promise)?;
     let values = proc.frames.take_out(room, &[from])?;
