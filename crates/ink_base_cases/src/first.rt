@@ -2,7 +2,7 @@
 
 use ink_base::{Text, Token, TokenKind};
 use ink_first::first_form;
-use ink_sheet::Sheet;
+use ink_sheet::{Sheet, first_word, words_from};
 use std::alloc::{AllocError, Global};
 
 /// A source that is made of its tokens.
@@ -18,7 +18,7 @@ pub fn tell(alloc: Global, sheet: &mut Sheet, lines: &str) -> Result<(), AllocEr
     let mut module = no_module(alloc);
     for line in lines.lines() {
         match line.strip_prefix("= ") {
-            None => add_line(&mut module, line)?,
+            None => add_line(alloc, &mut module, line)?,
             Some(label) => {
                 sheet.text(label);
                 texts(alloc, sheet, &module)?;
@@ -38,15 +38,15 @@ fn no_module(alloc: Global) -> Module {
 }
 
 /// Adds the tokens of a line, which are of one kind, or the one token of a line that begins with a bar, with its blanks.
-fn add_line(module: &mut Module, line: &str) -> Result<(), AllocError> {
-    let (kind, texts) = line.split_once(' ').unwrap_or((line, ""));
+fn add_line(alloc: Global, module: &mut Module, line: &str) -> Result<(), AllocError> {
+    let (kind, texts) = first_word(line);
     let Some(kind) = kind_of(kind) else {
         return Ok(());
     };
     if let Some(text) = texts.strip_prefix('|') {
         return add(module, kind, text);
     }
-    for text in texts.split_whitespace() {
+    for text in words_from(alloc, texts, 0)? {
         add(module, kind, text)?;
     }
     Ok(())
@@ -82,18 +82,16 @@ fn kind_of(name: &str) -> Option<TokenKind> {
 fn texts(alloc: Global, sheet: &mut Sheet, module: &Module) -> Result<(), AllocError> {
     match first_form(alloc, &module.source, &module.tokens)? {
         None => sheet.text(": of another form\n"),
-        Some(texts) => told_texts(alloc, sheet, &texts),
+        Some(texts) => told_texts(sheet, &texts),
     }
     Ok(())
 }
 
-fn told_texts(alloc: Global, sheet: &mut Sheet, texts: &[Text]) {
-    sheet.text(": ");
-    sheet.plain(&texts.len());
-    sheet.text(" texts");
+fn told_texts(sheet: &mut Sheet, texts: &[Text]) {
+    sheet.around(": ", texts.len() as u64, " texts");
     for text in texts {
         sheet.text(" |");
-        sheet.made(String::from_utf8_lossy(alloc, text.bytes()));
+        sheet.bytes(text.bytes(), "not UTF-8");
         sheet.text("|");
     }
     sheet.text("\n");

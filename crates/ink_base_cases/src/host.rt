@@ -6,10 +6,9 @@ use ink_sheet::Sheet;
 use std::alloc::AllocError;
 use std::io;
 use std::io::{ErrorKind, Write};
-use std::rt::Files as FileSystem;
 
 /// What real files answer, and a stream that fails.
-pub fn tell<R: FileSystem + AllocGlobal>(rt: &R, sheet: &mut Sheet) -> Result<(), AllocError> {
+pub fn tell(rt: &HostRuntime, sheet: &mut Sheet) -> Result<(), AllocError> {
     sheet.text("THE SYSTEM\n");
     files(rt, sheet)?;
     stream(sheet);
@@ -17,7 +16,7 @@ pub fn tell<R: FileSystem + AllocGlobal>(rt: &R, sheet: &mut Sheet) -> Result<()
     Ok(())
 }
 
-fn files<R: FileSystem + AllocGlobal>(rt: &R, sheet: &mut Sheet) -> Result<(), AllocError> {
+fn files(rt: &HostRuntime, sheet: &mut Sheet) -> Result<(), AllocError> {
     let alloc = rt.alloc();
     let mut files = HostFiles::new(rt);
     write(alloc, sheet, &mut files, b"written.txt", b"hello")?;

@@ -6,9 +6,9 @@ use ink_sheet::Sheet;
 /// Each limit, the numbers at the ends of its range, and the first number that is out of range.
 pub fn tell(sheet: &mut Sheet) {
     sheet.text("LIMITS\n");
-    for limit in Limit::ALL {
-        named(sheet, limit);
-        range(sheet, limit);
+    for limit in &Limit::ALL {
+        named(sheet, *limit);
+        range(sheet, *limit);
     }
     first_out(sheet);
     sheet.text("\n");
@@ -16,12 +16,9 @@ pub fn tell(sheet: &mut Sheet) {
 
 /// The limit's index, its option, its usual number and the text of its panic.
 fn named(sheet: &mut Sheet, limit: Limit) {
-    sheet.plain(&limit.index());
-    sheet.text(" ");
+    sheet.around("", limit.index() as u64, " ");
     sheet.text(limit.option());
-    sheet.text(" ");
-    sheet.plain(&Limits::defaults().get(limit));
-    sheet.text(", ");
+    sheet.around(" ", Limits::defaults().get(limit), ", ");
     sheet.text(limit.panic_text().unwrap_or("no panic"));
     sheet.text("\n");
 }
@@ -29,11 +26,9 @@ fn named(sheet: &mut Sheet, limit: Limit) {
 /// Which numbers the limit takes, of those at the ends of its range.
 fn range(sheet: &mut Sheet, limit: Limit) {
     let greatest = limit.greatest();
-    for number in [0, 1, greatest, greatest.wrapping_add(1)] {
-        sheet.text(" ");
-        sheet.plain(&number);
-        sheet.text(": ");
-        sheet.plain(&taken(limit, number));
+    for number in &[0, 1, greatest, greatest.wrapping_add(1)] {
+        sheet.numbered(" ", *number);
+        sheet.numbered(": ", taken(limit, *number));
     }
     sheet.text("\n");
 }

@@ -9,9 +9,9 @@ pub fn tell(alloc: Global, sheet: &mut Sheet) -> Result<(), AllocError> {
     sheet.text("LISTS\n");
     list(alloc, sheet)?;
     journal(alloc, sheet)?;
-    for most in [5, 4, 0] {
-        join(alloc, sheet, most)?;
-    }
+    join(alloc, sheet, 5)?;
+    join(alloc, sheet, 4)?;
+    join(alloc, sheet, 0)?;
     token(sheet);
     sheet.text("\n");
     Ok(())
@@ -21,40 +21,42 @@ pub fn tell(alloc: Global, sheet: &mut Sheet) -> Result<(), AllocError> {
 fn list(alloc: Global, sheet: &mut Sheet) -> Result<(), AllocError> {
     let mut list = Items::new(alloc);
     look(sheet, &mut list);
-    fill(&mut list)?;
-    change(sheet, &mut list);
+    list.push(7)?;
+    list.push(8)?;
+    list.push(9)?;
+    sheet.around("6 in place of ", u64::from(list.set(0, 6)), ": ");
+    listed(sheet, list.as_slice());
+    sheet.text("\n");
     look(sheet, &mut list);
     Ok(())
 }
 
 /// Tells the length, two items and the last, which is taken away.
-fn look(sheet: &mut Sheet, list: &mut Items<u32>) {
-    sheet.plain(&list.len());
-    sheet.text(" items: ");
-    sheet.shown(&list.get(2));
+fn look(sheet: &mut Sheet, list: &mut Items<u8>) {
+    sheet.around("", list.len(), " items: ");
+    item(sheet, list.get(2));
     sheet.text(" ");
-    sheet.shown(&list.get(3));
+    item(sheet, list.get(3));
     sheet.text(" ");
-    sheet.shown(&list.pop());
+    item(sheet, list.pop().as_ref());
     sheet.text("\n");
 }
 
-fn fill(list: &mut Items<u32>) -> Result<(), AllocError> {
-    for number in [7, 8, 9] {
-        list.push(number)?;
+fn item(sheet: &mut Sheet, item: Option<&u8>) {
+    match item {
+        None => sheet.text("None"),
+        Some(item) => sheet.around("Some(", u64::from(*item), ")"),
     }
-    Ok(())
 }
 
-/// Puts 6 in place of the first item.
-fn change(sheet: &mut Sheet, list: &mut Items<u32>) {
-    if !list.is_empty() {
-        sheet.text("6 in place of ");
-        sheet.plain(&list.set(0, 6));
-        sheet.text(": ");
-        sheet.shown(&list.as_slice());
-        sheet.text("\n");
+/// Bytes as a list of numbers.
+pub fn listed(sheet: &mut Sheet, bytes: &[u8]) {
+    let mut before = "[";
+    for byte in bytes {
+        sheet.numbered(before, u64::from(*byte));
+        before = ", ";
     }
+    sheet.text(if bytes.is_empty() { "[]" } else { "]" });
 }
 
 fn journal(alloc: Global, sheet: &mut Sheet) -> Result<(), AllocError> {
@@ -62,26 +64,24 @@ fn journal(alloc: Global, sheet: &mut Sheet) -> Result<(), AllocError> {
     journal.reserve(2)?;
     journal.add(7);
     journal.add(3);
-    for index in [0, 1, 2, u64::MAX] {
-        entry(sheet, &journal, index);
+    for index in &[0, 1, 2, u64::MAX] {
+        entry(sheet, &journal, *index);
     }
     Ok(())
 }
 
 fn entry(sheet: &mut Sheet, journal: &Journal, index: u64) {
-    sheet.text("entry ");
-    sheet.plain(&index);
-    sheet.text(": ");
-    sheet.shown(&journal.get(index));
-    sheet.text("\n");
+    sheet.around("entry ", index, ": ");
+    match journal.get(index) {
+        None => sheet.text("None\n"),
+        Some(process) => sheet.around("Some(", u64::from(process), ")\n"),
+    }
 }
 
 fn join(alloc: Global, sheet: &mut Sheet, most: u64) -> Result<(), AllocError> {
     let one = Text::of(alloc, b"ab")?;
     let other = Text::of(alloc, b"cde")?;
-    sheet.text("ab and cde, at most ");
-    sheet.plain(&most);
-    sheet.text(": ");
+    sheet.around("ab and cde, at most ", most, ": ");
     joined(sheet, one.join(alloc, &other, most));
     Ok(())
 }
@@ -89,11 +89,8 @@ fn join(alloc: Global, sheet: &mut Sheet, most: u64) -> Result<(), AllocError> {
 /// What a join comes to.
 fn joined(sheet: &mut Sheet, came: Result<Text, TextFault>) {
     match came {
-        Ok(text) => sheet.shown(&text.bytes()),
-        Err(TextFault::TooLong(length)) => {
-            sheet.plain(&length);
-            sheet.text(" is too long");
-        }
+        Ok(text) => listed(sheet, text.bytes()),
+        Err(TextFault::TooLong(length)) => sheet.around("", length, " is too long"),
         Err(TextFault::OutOfMemory) => sheet.text("no memory"),
     }
     sheet.text("\n");
@@ -107,6 +104,6 @@ fn token(sheet: &mut Sheet) {
         new_line: false,
     };
     sheet.text("bytes 4 to 6 of let ab: ");
-    sheet.shown(&token.text(b"let ab"));
+    listed(sheet, token.text(b"let ab"));
     sheet.text("\n");
 }

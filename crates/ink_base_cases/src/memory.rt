@@ -1,5 +1,6 @@
 //! Files and sinks in memory that fail by a plan.
 
+use crate::lists::listed;
 use ink_base::Text;
 use ink_devices::{Failed, FileFault, Files, MemFiles, MemSink, Sink, write_whole};
 use ink_sheet::Sheet;
@@ -26,9 +27,8 @@ pub fn read<F: Files>(
     let name = Text::of(alloc, name)?;
     match files.read(alloc, &name, most) {
         Ok(bytes) => {
-            sheet.plain(&most);
-            sheet.text(" bytes: ");
-            sheet.shown(&bytes);
+            sheet.around("", most, " bytes: ");
+            listed(sheet, &bytes);
             sheet.text("\n");
             Ok(())
         }
@@ -70,22 +70,28 @@ pub fn send<K: Sink>(sheet: &mut Sheet, sink: &mut K, piece: &str) {
     sheet.text("'");
     sheet.text(piece);
     match sink.write(piece.as_bytes()) {
-        Ok(count) => {
-            sheet.text("' takes ");
-            sheet.plain(&count);
-        }
+        Ok(count) => sheet.numbered("' takes ", count as u64),
         Err(Failed) => sheet.text("' fails"),
     }
     sheet.text("\n");
+}
+
+/// The numbers of a plan.
+fn numbers(alloc: Global, numbers: &[u64]) -> Result<Vec<u64>, AllocError> {
+    let mut plan = Vec::new(alloc);
+    for number in numbers {
+        plan.push(*number)?;
+    }
+    Ok(plan)
 }
 
 /// Files of which one holds `hello`, and whose fourth call is to fail.
 fn planned(alloc: Global) -> Result<MemFiles, AllocError> {
     let name = Text::of(alloc, b"a")?;
     let bytes = Vec::from_slice(alloc, b"hello")?;
-    let held = vec![in alloc; (name, bytes)]?;
-    let failing = vec![in alloc; 4]?;
-    Ok(MemFiles::new(held, failing))
+    let mut held = Vec::new(alloc);
+    held.push((name, bytes))?;
+    Ok(MemFiles::new(held, numbers(alloc, &[4])?))
 }
 
 fn calls(alloc: Global, sheet: &mut Sheet) -> Result<(), AllocError> {
@@ -96,25 +102,33 @@ fn calls(alloc: Global, sheet: &mut Sheet) -> Result<(), AllocError> {
     read(alloc, sheet, &mut files, b"a", 10)?;
     read(alloc, sheet, &mut files, b"c", 10)?;
     write(alloc, sheet, &mut files, b"a", b"")?;
-    for name in ["a", "b", "c"] {
-        let name = Text::of(alloc, name.as_bytes())?;
-        sheet.text("held: ");
-        sheet.shown(&files.get(&name));
-        sheet.text("\n");
-    }
+    held(sheet, files.get(&Text::of(alloc, b"a")?));
+    held(sheet, files.get(&Text::of(alloc, b"b")?));
+    held(sheet, files.get(&Text::of(alloc, b"c")?));
     Ok(())
+}
+
+/// What a file holds.
+fn held(sheet: &mut Sheet, bytes: Option<&[u8]>) {
+    match bytes {
+        None => sheet.text("held: None\n"),
+        Some(bytes) => {
+            sheet.text("held: Some(");
+            listed(sheet, bytes);
+            sheet.text(")\n");
+        }
+    }
 }
 
 /// A sink with room for four bytes, whose first calls take at most two bytes and none, and whose sixth is to fail.
 fn sink(alloc: Global, sheet: &mut Sheet) -> Result<(), AllocError> {
-    let failing = vec![in alloc; 6]?;
-    let short = vec![in alloc; 2, 0]?;
+    let (failing, short) = (numbers(alloc, &[6])?, numbers(alloc, &[2, 0])?);
     let mut sink = MemSink::new(alloc, 4, failing, short)?;
-    for piece in ["abc", "c", "", "cde", "cd", "", "e"] {
+    for piece in &["abc", "c", "", "cde", "cd", "", "e"] {
         send(sheet, &mut sink, piece);
     }
     sheet.text("the sink holds ");
-    sheet.shown(&sink.bytes());
+    listed(sheet, sink.bytes());
     sheet.text("\n");
     Ok(())
 }
@@ -141,16 +155,13 @@ impl Sink for Counting {
 
 /// A text that is written whole into a sink whose first call takes three bytes and whose second is to fail.
 fn whole(alloc: Global, sheet: &mut Sheet) -> Result<(), AllocError> {
-    let failing = vec![in alloc; 2]?;
-    let short = vec![in alloc; 3]?;
+    let (failing, short) = (numbers(alloc, &[2])?, numbers(alloc, &[3])?);
     let sink = MemSink::new(alloc, 100, failing, short)?;
     let mut counting = Counting { sink, calls: 0 };
     sheet.text("written ");
-    sheet.plain(&write_whole(&mut counting, b"hello\n").is_ok());
+    sheet.truth(write_whole(&mut counting, b"hello\n").is_ok());
     sheet.text(", ");
-    sheet.shown(&counting.sink.bytes());
-    sheet.text(" in ");
-    sheet.plain(&counting.calls);
-    sheet.text(" calls\n");
+    listed(sheet, counting.sink.bytes());
+    sheet.around(" in ", counting.calls, " calls\n");
     Ok(())
 }

@@ -2,29 +2,34 @@
 
 use ink_base::{Kind, Mode, Slot};
 use ink_prims::{Row, number_of, row_at};
-use ink_sheet::Sheet;
+use ink_sheet::{Sheet, first_word};
 
 /// Each row by its number, and the number of the method of each line, a type and a name.
 pub fn tell(sheet: &mut Sheet, lines: &str) {
     sheet.text("BUILT-IN METHODS\n");
     for number in 0..48 {
-        sheet.plain(&number);
-        sheet.text(" ");
+        sheet.around("", u64::from(number), " ");
         row(sheet, row_at(number));
     }
     for line in lines.lines() {
         sheet.text(line);
         sheet.text(": ");
-        sheet.shown(&number_in(line));
-        sheet.text("\n");
+        found(sheet, number_of_line(line));
     }
     sheet.text("\n");
 }
 
 /// The number of the method of a line.
-fn number_in(line: &str) -> Option<u32> {
-    let (kind, name) = line.split_once(' ')?;
+fn number_of_line(line: &str) -> Option<u32> {
+    let (kind, name) = first_word(line);
     number_of(name.as_bytes(), kind_of(kind)?)
+}
+
+fn found(sheet: &mut Sheet, number: Option<u32>) {
+    match number {
+        None => sheet.text("None\n"),
+        Some(number) => sheet.around("Some(", u64::from(number), ")\n"),
+    }
 }
 
 /// A row: its receiver, mode, name, operands and result.

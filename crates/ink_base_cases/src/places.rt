@@ -7,16 +7,14 @@ use std::alloc::{AllocError, Global};
 
 /// The places of three sources, and some numbers.
 pub fn tell(alloc: Global, sheet: &mut Sheet) -> Result<(), AllocError> {
-    sheet.text("PLACES\n");
-    for source in ["ab\ncd\r\n\ne", "", "\u{e9}a"] {
-        sheet.text("of ");
-        sheet.shown(&source);
-        sheet.text("\n");
-        places(sheet, source.as_bytes());
-    }
-    for number in [0, -1, 10, -1203, i64::MIN, i64::MAX] {
-        let text = decimal(alloc, number)?;
-        sheet.made(String::from_utf8_lossy(alloc, text.bytes()));
+    sheet.text("PLACES\nof \"ab\\ncd\\r\\n\\ne\"\n");
+    places(sheet, b"ab\ncd\r\n\ne");
+    sheet.text("of \"\"\n");
+    places(sheet, b"");
+    sheet.text("of \"\u{e9}a\"\n");
+    places(sheet, b"\xC3\xA9a");
+    for number in &[0, -1, 10, -1203, i64::MIN, i64::MAX] {
+        sheet.bytes(decimal(alloc, *number)?.bytes(), "not UTF-8");
         sheet.text("\n");
     }
     sheet.text("\n");
@@ -34,10 +32,7 @@ fn places(sheet: &mut Sheet, source: &[u8]) {
 }
 
 fn place(sheet: &mut Sheet, byte: u32, place: Place) {
-    sheet.plain(&byte);
-    sheet.text(" ");
-    sheet.plain(&place.line);
-    sheet.text(":");
-    sheet.plain(&place.column);
-    sheet.text("\n");
+    sheet.numbered("", u64::from(byte));
+    sheet.numbered(" ", u64::from(place.line));
+    sheet.around(":", u64::from(place.column), "\n");
 }

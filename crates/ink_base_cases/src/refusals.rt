@@ -44,8 +44,8 @@ static RULES: [Rule; 34] = [
 /// The rules, and two refusals, without and with a detail.
 pub fn tell(alloc: Global, sheet: &mut Sheet) -> Result<(), AllocError> {
     sheet.text("RULES AND REFUSALS\n");
-    for rule in RULES {
-        sheet.plain(&rule);
+    for rule in &RULES {
+        sheet.plain(rule);
         sheet.text("\n");
     }
     refusal(alloc, sheet, Rule::MovedUse, None)?;
@@ -73,7 +73,7 @@ fn refusal(
         detail,
     };
     let told = refusal.text(alloc)?;
-    sheet.made(String::from_utf8_lossy(alloc, told.bytes()));
+    sheet.bytes(told.bytes(), "not UTF-8");
     sheet.text("\n");
     Ok(())
 }

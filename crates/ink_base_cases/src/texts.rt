@@ -1,6 +1,6 @@
 //! Bytes that are UTF-8, and bytes that stop being so.
 
-use ink_sheet::Sheet;
+use ink_sheet::{Sheet, words_from};
 use ink_text::{NotUtf8, decode};
 use std::alloc::{AllocError, Global};
 
@@ -12,25 +12,28 @@ pub fn tell(alloc: Global, sheet: &mut Sheet, lines: &str) -> Result<(), AllocEr
         let bytes = bytes(alloc, line)?;
         match decode(&bytes) {
             Ok(()) => sheet.text(": it is\n"),
-            Err(NotUtf8(byte)) => stops(sheet, byte),
+            Err(NotUtf8(byte)) => sheet.around(": stops at ", byte, "\n"),
         }
     }
     sheet.text("\n");
     Ok(())
 }
 
-fn stops(sheet: &mut Sheet, byte: u64) {
-    sheet.text(": stops at ");
-    sheet.plain(&byte);
-    sheet.text("\n");
+/// The value of a hexadecimal digit.
+fn digit(byte: u8) -> u8 {
+    match byte {
+        b'0'..=b'9' => byte - b'0',
+        b'A'..=b'F' => byte - b'A' + 10,
+        _ => 0,
+    }
 }
 
-/// The bytes that the words of a line are in hexadecimal.
+/// The bytes that the words of a line are in hexadecimal, two digits each.
 fn bytes(alloc: Global, line: &str) -> Result<Vec<u8>, AllocError> {
     let mut bytes = Vec::new(alloc);
-    for word in line.split_whitespace() {
-        if let Ok(byte) = u8::from_str_radix(word, 16) {
-            bytes.push(byte)?;
+    for word in words_from(alloc, line, 0)? {
+        if let [high, low] = word.as_bytes() {
+            bytes.push((digit(*high) << 4) | digit(*low))?;
         }
     }
     Ok(bytes)

@@ -1,7 +1,7 @@
 //! Command lines, and the commands that they are.
 
 use ink_base::{Limit, Limits, Text};
-use ink_sheet::Sheet;
+use ink_sheet::{Sheet, words_from};
 use ink_words::{Order, read_words};
 use std::alloc::{AllocError, Global};
 
@@ -12,24 +12,18 @@ pub fn tell(alloc: Global, sheet: &mut Sheet, lines: &str) -> Result<(), AllocEr
         sheet.text(line);
         let words = words(alloc, line)?;
         match read_words(&words) {
-            Ok(order) => told_order(alloc, sheet, order),
-            Err(number) => wrong(sheet, number),
+            Ok(order) => told_order(sheet, order),
+            Err(number) => sheet.around(": word ", number, " is wrong\n"),
         }
     }
     sheet.text("\n");
     Ok(())
 }
 
-fn wrong(sheet: &mut Sheet, number: u64) {
-    sheet.text(": word ");
-    sheet.plain(&number);
-    sheet.text(" is wrong\n");
-}
-
 /// The words of a line. `''` stands for the empty word, and `FF` for the byte of that number.
 fn words(alloc: Global, line: &str) -> Result<Vec<Text>, AllocError> {
     let mut words = Vec::new(alloc);
-    for word in line.split_whitespace() {
+    for word in words_from(alloc, line, 0)? {
         let bytes: &[u8] = match word {
             "''" => b"",
             "FF" => b"\xFF",
@@ -40,22 +34,19 @@ fn words(alloc: Global, line: &str) -> Result<Vec<Text>, AllocError> {
     Ok(words)
 }
 
-fn told_order(alloc: Global, sheet: &mut Sheet, order: Order<'_>) {
+fn told_order(sheet: &mut Sheet, order: Order<'_>) {
     match order {
-        Order::Run { file, limits } => target(alloc, sheet, ": runs ", file, &limits),
-        Order::Print { file, limits } => target(alloc, sheet, ": prints ", file, &limits),
+        Order::Run { file, limits } => target(sheet, ": runs ", file, &limits),
+        Order::Check { file, limits } => target(sheet, ": checks ", file, &limits),
+        Order::Print { file, limits } => target(sheet, ": prints ", file, &limits),
     }
 }
 
 /// What is done to which file, and within which limits.
-fn target(alloc: Global, sheet: &mut Sheet, deed: &str, file: &Text, limits: &Limits) {
+fn target(sheet: &mut Sheet, deed: &str, file: &Text, limits: &Limits) {
     sheet.text(deed);
-    sheet.made(String::from_utf8_lossy(alloc, file.bytes()));
-    sheet.text(", ");
-    sheet.plain(&limits.get(Limit::Source));
-    sheet.text(" ");
-    sheet.plain(&limits.get(Limit::Height));
-    sheet.text(" ");
-    sheet.plain(&limits.get(Limit::Workers));
-    sheet.text("\n");
+    sheet.bytes(file.bytes(), "not UTF-8");
+    sheet.numbered(", ", limits.get(Limit::Source));
+    sheet.numbered(" ", limits.get(Limit::Height));
+    sheet.around(" ", limits.get(Limit::Workers), "\n");
 }

@@ -1,5 +1,5 @@
 -- From what came of the words, and what was told of it, to what the top call promises.
-use Rattle.std.proofs.Common.{◌≡◌, ℕ, ◌⊎◌, inl, inr, List, [], Option, None, Some, refl, sym, ap, subst, ◌∙◌}
+use Rattle.std.proofs.Common.{◌≡◌, ℕ, ◌⊎◌, inl, inr, false, true, List, [], Option, None, Some, refl, sym, ap, subst, ◌∙◌}
 use Rattle.ink_devices.specs.Outside.{Directory, Reads}
 use Rattle.ink_base.specs.declared.token.Token.{Token}
 use Rattle.ink_base.specs.declared.refusal.Refusal.{Refusal}
@@ -9,17 +9,17 @@ use Rattle.ink_words.specs.Commands.{Word, Asked, asked}
 use Rattle.ink_grammar.specs.Tree.{Tree}
 use Rattle.ink_reading.specs.Reading as reading
 use Rattle.ink_print.specs.Layout.{print}
-use Rattle.ink_top.specs.Calls.{IsIdle, IsUnread, most_read, RanSource, PrintedSource, Came, Did, Performed, Tells}
+use Rattle.ink_top.specs.Calls.{IsIdle, IsUnread, most_read, IsRefusedBy, CheckedSource, RanSource, PrintedSource, Came, Did, Performed, Tells}
 use Rattle.ink_top.specs.Causes.{IsFault}
 use Rattle.ink_top.specs.Devices.{Change, FilesState, SinkState, KeepsFiles, Gets, Cuts}
-use Rattle.ink_top.specs.Headline.{TopCall, IsUntouched, StandUnder, TakesSource, RunsSource, IsRefused, RefusesModule, LeavesUnbuilt, WritesOutput, ReachesEnd, WritesPrint, RefusesWords}
+use Rattle.ink_top.specs.Headline.{TopCall, IsUntouched, StandUnder, TakesSource, RunsSource, is_to_judge, IsRefused, RefusesModule, IsLaterCause, LeavesUnbuilt, AcceptsModule, WritesOutput, ReachesEnd, WritesPrint, RefusesWords}
 use Rattle.ink_top.specs.Runs.{Replays, ReplaysCut}
-use Rattle.ink_top.specs.Verdict.{IsAccepted, IsUnbuilt, IsOnlyVerdict, Verdict}
+use Rattle.ink_top.specs.Verdict.{IsAccepted, IsFurther, IsOnlyVerdict, Verdict}
 use Rattle.ink_round.specs.ReadsBack.{IsPrint}
 use Rattle.ink_top.specs.Verdict as verdict
 use Rattle.ink_top.specs.World.{Program}
 use Rattle.ink_top.specs.declared.cause.Cause.{Cause}
-use Rattle.ink_top.specs.declared.cause.Cause.TheVariants.{Quiet, Written, Refused, Usage, ReadFault, WriteFault, OutOfMemory, Unbuilt}
+use Rattle.ink_top.specs.declared.cause.Cause.TheVariants.{Quiet, Accepted, Written, Refused, Usage, ReadFault, WriteFault, OutOfMemory, Unbuilt}
 use Rattle.ink_top.proofs.Stands.{from_to, replays_nothing}
 use Rattle.ink_top.proofs.Telling.{told_fault, told_or_fault, told_late}
 use Rattle.ink_top.proofs.WrongWords.{no_wrong_word, one_wrong_word}
@@ -72,11 +72,11 @@ performed_source call went asked bytes takes = elim went.performed [
 accepted_or_refused : (program : Program) (refusal : Refusal) → verdict.Accepted program ≡ verdict.Refused refusal → ⊥
 accepted_or_refused program refusal e = cc
 
-accepted_or_unbuilt : (program : Program) → verdict.Accepted program ≡ verdict.Unbuilt → ⊥
-accepted_or_unbuilt program e = cc
+accepted_or_further : (program : Program) → verdict.Accepted program ≡ verdict.Further → ⊥
+accepted_or_further program e = cc
 
-refused_or_unbuilt : (refusal : Refusal) → verdict.Refused refusal ≡ verdict.Unbuilt → ⊥
-refused_or_unbuilt refusal e = cc
+refused_or_further : (refusal : Refusal) → verdict.Refused refusal ≡ verdict.Further → ⊥
+refused_or_further refusal e = cc
 
 same_program : (one other : Program) → verdict.Accepted one ≡ verdict.Accepted other → one ≡ other
 same_program one other e = cc
@@ -95,14 +95,37 @@ same_told one other e = cc
 
 -- a refused source
 
+-- the verdict is one refusal, and no phase behind the reading judges the source
+one_refusal : (limits bytes : List ℕ) (refusal other : Refusal) → verdict.IsRefused limits bytes refusal → IsRefusedBy limits bytes other
+    → other ≡ refusal
+one_refusal limits bytes refusal other refused by = elim by [
+  | inl it ↦ sym (same_refusal refusal other (it.only (verdict.Refused refusal) refused))
+  | inr it ↦ absurd (refused_or_further refusal (it.0.only (verdict.Refused refusal) refused))
+]
+
+check_refused : (limits : List ℕ) (cause : Cause) (bytes : List ℕ) (refusal : Refusal) → verdict.IsRefused limits bytes refusal
+    → CheckedSource limits cause bytes → cause ≡ Refused refusal ⊎ IsFault cause
+check_refused limits Quiet bytes refusal refused checked = absurd checked
+check_refused limits Accepted bytes refusal refused checked =
+    absurd (accepted_or_refused checked.0 refusal (sym (checked.1.only (verdict.Refused refusal) refused)))
+check_refused limits Written bytes refusal refused checked = absurd checked
+check_refused limits (Refused other) bytes refusal refused checked = inl (ap Refused (one_refusal limits bytes refusal other refused checked))
+check_refused limits (Usage number) bytes refusal refused checked = absurd checked
+check_refused limits ReadFault bytes refusal refused checked = absurd checked
+check_refused limits WriteFault bytes refusal refused checked = absurd checked
+check_refused limits OutOfMemory bytes refusal refused checked = inr (inr (inr refl))
+check_refused limits Unbuilt bytes refusal refused checked =
+    absurd (refused_or_further refusal (checked.only (verdict.Refused refusal) refused))
+
 run_refused : (limits : List ℕ) (cause : Cause) (bytes : List ℕ) (refusal : Refusal) (journal : List ℕ) (out : Change SinkState)
     → verdict.IsRefused limits bytes refusal → RanSource limits cause bytes journal out
     → IsIdle journal out × (cause ≡ Refused refusal ⊎ IsFault cause)
 run_refused limits Quiet bytes refusal journal out refused ran =
     absurd (accepted_or_refused ran.0 refusal (sym (ran.1.only (verdict.Refused refusal) refused)))
+run_refused limits Accepted bytes refusal journal out refused ran = absurd ran
 run_refused limits Written bytes refusal journal out refused ran = absurd ran
 run_refused limits (Refused other) bytes refusal journal out refused ran =
-    (ran.1, inl (ap Refused (sym (same_refusal refusal other (ran.0.only (verdict.Refused refusal) refused)))))
+    (ran.1, inl (ap Refused (one_refusal limits bytes refusal other refused ran.0)))
 run_refused limits (Usage number) bytes refusal journal out refused ran = absurd ran
 run_refused limits ReadFault bytes refusal journal out refused ran = absurd ran
 run_refused limits WriteFault bytes refusal journal out refused ran =
@@ -112,7 +135,7 @@ run_refused limits OutOfMemory bytes refusal journal out refused ran = elim ran 
   | inr it ↦ absurd (accepted_or_refused it.0 refusal (sym (it.1.only (verdict.Refused refusal) refused)))
 ]
 run_refused limits Unbuilt bytes refusal journal out refused ran =
-    absurd (refused_or_unbuilt refusal (ran.0.only (verdict.Refused refusal) refused))
+    absurd (refused_or_further refusal (ran.0.only (verdict.Refused refusal) refused))
 
 no_print : (limits bytes : List ℕ) (refusal : Refusal) (text : List ℕ) → reading.ComesTo limits bytes (reading.Refuses refusal)
     → IsPrint limits bytes text → ⊥
@@ -126,6 +149,7 @@ print_refused : (limits : List ℕ) (cause : Cause) (bytes : List ℕ) (refusal 
     → reading.ComesTo limits bytes (reading.Refuses refusal) → PrintedSource limits cause bytes out → journal ≡ []
     → IsIdle journal out × (cause ≡ Refused refusal ⊎ IsFault cause)
 print_refused limits Quiet bytes refusal journal out refused printed none = absurd printed
+print_refused limits Accepted bytes refusal journal out refused printed none = absurd printed
 print_refused limits Written bytes refusal journal out refused printed none =
     absurd (no_print limits bytes refusal printed.0 refused printed.1)
 print_refused limits (Refused other) bytes refusal journal out refused printed none = (
@@ -145,6 +169,8 @@ came_refused : (command : Command) (limits : List ℕ) (cause : Cause) (bytes : 
     → IsIdle journal out × (cause ≡ Refused refusal ⊎ IsFault cause)
 came_refused command.Run limits cause bytes refusal journal out refused came =
     run_refused limits cause bytes refusal journal out refused came
+came_refused command.Check limits cause bytes refusal journal out refused came =
+    (came.1, check_refused limits cause bytes refusal refused came.0)
 came_refused command.Print limits cause bytes refusal journal out refused came =
     print_refused limits cause bytes refusal journal out refused came.0 came.1
 
@@ -157,33 +183,108 @@ refused_module call went asked bytes refusal takes refused =
     ] in
     (untouched call went.kept found.0, told_or_fault went.found call.cause (Refused refusal) went.file call.err went.tells found.1)
 
--- a module that is more than what runs
+-- a module that the phases behind the reading judge
 
-run_unbuilt : (limits : List ℕ) (cause : Cause) (bytes : List ℕ) (journal : List ℕ) (out : Change SinkState)
-    → IsUnbuilt limits bytes → RanSource limits cause bytes journal out → IsIdle journal out × (cause ≡ Unbuilt ⊎ IsFault cause)
-run_unbuilt limits Quiet bytes journal out unbuilt ran =
-    absurd (accepted_or_unbuilt ran.0 (sym (ran.1.only verdict.Unbuilt unbuilt)))
-run_unbuilt limits Written bytes journal out unbuilt ran = absurd ran
-run_unbuilt limits (Refused other) bytes journal out unbuilt ran =
-    absurd (refused_or_unbuilt other (sym (ran.0.only verdict.Unbuilt unbuilt)))
-run_unbuilt limits (Usage number) bytes journal out unbuilt ran = absurd ran
-run_unbuilt limits ReadFault bytes journal out unbuilt ran = absurd ran
-run_unbuilt limits WriteFault bytes journal out unbuilt ran =
-    absurd (accepted_or_unbuilt ran.0 (sym (ran.1.only verdict.Unbuilt unbuilt)))
-run_unbuilt limits OutOfMemory bytes journal out unbuilt ran = elim ran [
-  | inl it ↦ (it, inr (inr (inr refl)))
-  | inr it ↦ absurd (accepted_or_unbuilt it.0 (sym (it.1.only verdict.Unbuilt unbuilt)))
+not_first : {A : Type 0} (limits bytes : List ℕ) (program : Program) → IsFurther limits bytes → IsOnlyVerdict limits bytes (verdict.Accepted program) → A
+not_first limits bytes program further it = absurd (accepted_or_further program (sym (it.only verdict.Further further)))
+
+refused_further : (limits bytes : List ℕ) (refusal : Refusal) → IsFurther limits bytes → IsRefusedBy limits bytes refusal
+    → IsLaterCause (Refused refusal)
+refused_further limits bytes refusal further by = elim by [
+  | inl it ↦ absurd (refused_or_further refusal (sym (it.only verdict.Further further)))
+  | inr it ↦ inl (refusal, refl, it.1)
 ]
-run_unbuilt limits Unbuilt bytes journal out unbuilt ran = (ran.1, inl refl)
+
+check_further : (limits : List ℕ) (cause : Cause) (bytes : List ℕ) → IsFurther limits bytes → CheckedSource limits cause bytes
+    → IsLaterCause cause ⊎ IsFault cause
+check_further limits Quiet bytes further checked = absurd checked
+check_further limits Accepted bytes further checked = not_first limits bytes checked.0 further checked.1
+check_further limits Written bytes further checked = absurd checked
+check_further limits (Refused other) bytes further checked = inl (refused_further limits bytes other further checked)
+check_further limits (Usage number) bytes further checked = absurd checked
+check_further limits ReadFault bytes further checked = absurd checked
+check_further limits WriteFault bytes further checked = absurd checked
+check_further limits OutOfMemory bytes further checked = inr (inr (inr refl))
+check_further limits Unbuilt bytes further checked = inl (inr refl)
+
+run_further : (limits : List ℕ) (cause : Cause) (bytes : List ℕ) (journal : List ℕ) (out : Change SinkState)
+    → IsFurther limits bytes → RanSource limits cause bytes journal out → IsIdle journal out × (IsLaterCause cause ⊎ IsFault cause)
+run_further limits Quiet bytes journal out further ran = not_first limits bytes ran.0 further ran.1
+run_further limits Accepted bytes journal out further ran = absurd ran
+run_further limits Written bytes journal out further ran = absurd ran
+run_further limits (Refused other) bytes journal out further ran = (ran.1, inl (refused_further limits bytes other further ran.0))
+run_further limits (Usage number) bytes journal out further ran = absurd ran
+run_further limits ReadFault bytes journal out further ran = absurd ran
+run_further limits WriteFault bytes journal out further ran = not_first limits bytes ran.0 further ran.1
+run_further limits OutOfMemory bytes journal out further ran = elim ran [
+  | inl it ↦ (it, inr (inr (inr refl)))
+  | inr it ↦ not_first limits bytes it.0 further it.1
+]
+run_further limits Unbuilt bytes journal out further ran = (ran.1, inl (inr refl))
+
+print_or_judge : false ≡ true → ⊥
+print_or_judge e = cc
+
+came_further : (command : Command) (limits : List ℕ) (cause : Cause) (bytes : List ℕ) (journal : List ℕ) (out : Change SinkState)
+    → is_to_judge command ≡ true → IsFurther limits bytes → Came command limits cause bytes journal out
+    → IsIdle journal out × (IsLaterCause cause ⊎ IsFault cause)
+came_further command.Run limits cause bytes journal out judged further came = run_further limits cause bytes journal out further came
+came_further command.Check limits cause bytes journal out judged further came =
+    (came.1, check_further limits cause bytes further came.0)
+came_further command.Print limits cause bytes journal out judged further came = absurd (print_or_judge judged)
+
+-- a cause of such a module stays, or a fault takes its place
+told_further : (cause told : Cause) (file : Word) (err : Change SinkState) → Tells cause told file err → IsLaterCause cause ⊎ IsFault cause
+    → IsLaterCause told ⊎ IsFault told
+told_further cause told file err tells found = elim found [
+  | inl later ↦ elim later [
+    | inl it ↦ elim (told_or_fault cause told (Refused it.0) file err tells (inl it.1)) [
+      | inl same ↦ inl (inl (it.0, same, it.2))
+      | inr fault ↦ inr fault
+    ]
+    | inr it ↦ elim (told_or_fault cause told Unbuilt file err tells (inl it)) [
+      | inl same ↦ inl (inr same)
+      | inr fault ↦ inr fault
+    ]
+  ]
+  | inr fault ↦ inr (told_fault cause told file err tells fault)
+]
 
 pub unbuilt_module : (call : TopCall) → Went call → LeavesUnbuilt call
-unbuilt_module call went limits bytes source unbuilt =
-    let found : IsIdle call.journal call.out × (went.found ≡ Unbuilt ⊎ IsFault went.found) =
-    elim (performed_source call went (asked command.Run source.0 limits) bytes source.1) [
-      | inl ran ↦ run_unbuilt limits went.found bytes call.journal call.out unbuilt ran
+unbuilt_module call went asked bytes takes judged further =
+    let found : IsIdle call.journal call.out × (IsLaterCause went.found ⊎ IsFault went.found) =
+    elim (performed_source call went asked bytes takes) [
+      | inl came ↦ came_further asked.command asked.limits went.found bytes call.journal call.out judged further came
       | inr it ↦ (it.0, inr it.1)
     ] in
-    (untouched call went.kept found.0, told_or_fault went.found call.cause Unbuilt went.file call.err went.tells found.1)
+    (untouched call went.kept found.0, told_further went.found call.cause went.file call.err went.tells found.1)
+
+-- an accepted source that is checked
+
+check_accepted : (limits : List ℕ) (cause : Cause) (bytes : List ℕ) (program : Program) → IsAccepted limits bytes program
+    → CheckedSource limits cause bytes → cause ≡ Accepted ⊎ IsFault cause
+check_accepted limits Quiet bytes program accepted checked = absurd checked
+check_accepted limits Accepted bytes program accepted checked = inl refl
+check_accepted limits Written bytes program accepted checked = absurd checked
+check_accepted limits (Refused other) bytes program accepted checked = elim checked [
+  | inl it ↦ absurd (accepted_or_refused program other (it.only (verdict.Accepted program) accepted))
+  | inr it ↦ absurd (accepted_or_further program (it.0.only (verdict.Accepted program) accepted))
+]
+check_accepted limits (Usage number) bytes program accepted checked = absurd checked
+check_accepted limits ReadFault bytes program accepted checked = absurd checked
+check_accepted limits WriteFault bytes program accepted checked = absurd checked
+check_accepted limits OutOfMemory bytes program accepted checked = inr (inr (inr refl))
+check_accepted limits Unbuilt bytes program accepted checked =
+    absurd (accepted_or_further program (checked.only (verdict.Accepted program) accepted))
+
+pub accepts_module : (call : TopCall) → Went call → AcceptsModule call
+accepts_module call went limits bytes program source accepted =
+    let found : IsIdle call.journal call.out × (went.found ≡ Accepted ⊎ IsFault went.found) =
+    elim (performed_source call went (asked command.Check source.0 limits) bytes source.1) [
+      | inl came ↦ (came.1, check_accepted limits went.found bytes program accepted came.0)
+      | inr it ↦ (it.0, inr it.1)
+    ] in
+    (untouched call went.kept found.0, told_or_fault went.found call.cause Accepted went.file call.err went.tells found.1)
 
 -- an accepted source
 
@@ -194,9 +295,12 @@ run_accepted limits Quiet bytes program journal out accepted ran = (
   inl (subst (λ (p : Program). Replays p journal out) (sym (same_program program ran.0 (ran.1.only (verdict.Accepted program) accepted))) ran.2),
   inl refl,
 )
+run_accepted limits Accepted bytes program journal out accepted ran = absurd ran
 run_accepted limits Written bytes program journal out accepted ran = absurd ran
-run_accepted limits (Refused other) bytes program journal out accepted ran =
-    absurd (accepted_or_refused program other (ran.0.only (verdict.Accepted program) accepted))
+run_accepted limits (Refused other) bytes program journal out accepted ran = elim ran.0 [
+  | inl it ↦ absurd (accepted_or_refused program other (it.only (verdict.Accepted program) accepted))
+  | inr it ↦ absurd (accepted_or_further program (it.0.only (verdict.Accepted program) accepted))
+]
 run_accepted limits (Usage number) bytes program journal out accepted ran = absurd ran
 run_accepted limits ReadFault bytes program journal out accepted ran = absurd ran
 run_accepted limits WriteFault bytes program journal out accepted ran = (
@@ -211,7 +315,7 @@ run_accepted limits OutOfMemory bytes program journal out accepted ran = elim ra
   )
 ]
 run_accepted limits Unbuilt bytes program journal out accepted ran =
-    absurd (accepted_or_unbuilt program (ran.0.only (verdict.Accepted program) accepted))
+    absurd (accepted_or_further program (ran.0.only (verdict.Accepted program) accepted))
 
 accepted_source : (call : TopCall) (went : Went call) (limits bytes : List ℕ) (program : Program) → RunsSource call limits bytes
     → IsAccepted limits bytes program
@@ -241,6 +345,7 @@ print_read : (limits : List ℕ) (cause : Cause) (bytes : List ℕ) (tokens : Li
     → ((cause ≡ Written) × Gets out (print bytes tree)) ⊎ ((cause ≡ WriteFault) × Cuts out (print bytes tree))
     ⊎ (IsFault cause × (out.after ≡ out.before))
 print_read limits Quiet bytes tokens tree out reads printed = absurd printed
+print_read limits Accepted bytes tokens tree out reads printed = absurd printed
 print_read limits Written bytes tokens tree out reads printed =
     inl (refl, subst (Gets out) (print_is limits bytes printed.0 tokens tree reads printed.1) printed.2)
 print_read limits (Refused other) bytes tokens tree out reads printed =

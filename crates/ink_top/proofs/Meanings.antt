@@ -1,18 +1,38 @@
 -- What a cause means of a call, and what is told of it.
 use Rattle.std.proofs.Common.{◌≡◌, ℕ, ◌<◌, ◌⊎◌, inl, inr, List, [], take, refl, sym, ap, subst, ◌∙◌, arith}
+use Rattle.ink_base.specs.declared.refusal.Refusal.{Refusal}
 use Rattle.ink_words.specs.declared.command.Command.{Command}
 use Rattle.ink_words.specs.declared.command.Command.TheVariants as command
 use Rattle.ink_words.specs.Commands.{Word, Asked, IsOrder}
-use Rattle.ink_top.specs.Calls.{IsIdle, RanSource, PrintedSource, Came, TellsMade, TellsFixed, Tells}
+use Rattle.ink_top.specs.Calls.{IsIdle, IsRefusedBy, CheckedSource, RanSource, PrintedSource, Came, TellsMade, TellsFixed, Tells}
 use Rattle.ink_top.specs.Causes.{cause_text}
 use Rattle.ink_top.specs.Devices.{Change, SinkState, HasFailed, Gets, Cuts}
-use Rattle.ink_top.specs.Headline.{TopCall, IsUntouched, HasSource, Means, MeansCause, ShowsFaults, IsTextOf, TellsPart, TellsCause}
+use Rattle.ink_top.specs.Headline.{TopCall, IsUntouched, HasSource, MayRefuse, Means, MeansCause, ShowsFaults, IsTextOf, TellsPart, TellsCause}
 use Rattle.ink_top.specs.declared.cause.Cause.{Cause}
-use Rattle.ink_top.specs.declared.cause.Cause.TheVariants.{Quiet, Written, Refused, Usage, ReadFault, WriteFault, OutOfMemory, Unbuilt}
+use Rattle.ink_top.specs.declared.cause.Cause.TheVariants.{Quiet, Accepted, Written, Refused, Usage, ReadFault, WriteFault, OutOfMemory, Unbuilt}
 use Rattle.ink_top.proofs.Clauses.{Went, untouched}
 use Rattle.ink_top.proofs.Telling.{IsEarly, told_as, told_late, tells_failed, whole_or_failed, idle_or_failed, nothing_told}
 
 -- the table of causes
+
+may_refuse : (limits bytes : List ℕ) (refusal : Refusal) → IsRefusedBy limits bytes refusal → MayRefuse command.Run limits bytes refusal
+may_refuse limits bytes refusal refused = elim refused [ inl it ↦ inl it.is | inr it ↦ inr (refl, it.0.is, it.1) ]
+
+check_refuses : (limits bytes : List ℕ) (refusal : Refusal) → IsRefusedBy limits bytes refusal → MayRefuse command.Check limits bytes refusal
+check_refuses limits bytes refusal refused = elim refused [ inl it ↦ inl it.is | inr it ↦ inr (refl, it.0.is, it.1) ]
+
+check_means : (call : TopCall) (limits bytes : List ℕ) (cause : Cause) → IsUntouched call
+    → HasSource call command.Check limits bytes → CheckedSource limits cause bytes → Means cause call
+check_means call limits bytes Quiet none has checked = absurd checked
+check_means call limits bytes Accepted none has checked = (none, (limits, bytes, checked.0, has, checked.1.is))
+check_means call limits bytes Written none has checked = absurd checked
+check_means call limits bytes (Refused refusal) none has checked =
+    (none, (command.Check, limits, bytes, has, check_refuses limits bytes refusal checked))
+check_means call limits bytes (Usage number) none has checked = absurd checked
+check_means call limits bytes ReadFault none has checked = absurd checked
+check_means call limits bytes WriteFault none has checked = absurd checked
+check_means call limits bytes OutOfMemory none has checked = inl none
+check_means call limits bytes Unbuilt none has checked = (none, (command.Check, limits, bytes, has, refl, checked.is))
 
 run_means : (call : TopCall) (limits bytes : List ℕ) (cause : Cause) → (IsIdle call.journal call.out → IsUntouched call)
     → HasSource call command.Run limits bytes → RanSource limits cause bytes call.journal call.out → Means cause call
@@ -27,8 +47,10 @@ run_means call limits bytes Quiet idle has ran = (
   },
   ran.3,
 )
+run_means call limits bytes Accepted idle has ran = absurd ran
 run_means call limits bytes Written idle has ran = absurd ran
-run_means call limits bytes (Refused refusal) idle has ran = (idle ran.1, (command.Run, limits, bytes, has, ran.0.is))
+run_means call limits bytes (Refused refusal) idle has ran =
+    (idle ran.1, (command.Run, limits, bytes, has, may_refuse limits bytes refusal ran.0))
 run_means call limits bytes (Usage number) idle has ran = absurd ran
 run_means call limits bytes ReadFault idle has ran = absurd ran
 run_means call limits bytes WriteFault idle has ran = inl (limits, bytes, inl (ran.0, has, ran.1.is, ran.2))
@@ -43,7 +65,7 @@ run_means call limits bytes OutOfMemory idle has ran = elim ran [
     replays = it.2;
   })
 ]
-run_means call limits bytes Unbuilt idle has ran = (idle ran.1, (limits, bytes, has, ran.0.is))
+run_means call limits bytes Unbuilt idle has ran = (idle ran.1, (command.Run, limits, bytes, has, refl, ran.0.is))
 
 nothing_written : (call : TopCall) → (IsIdle call.journal call.out → IsUntouched call) → call.out.after ≡ call.out.before → call.journal ≡ []
     → IsUntouched call
@@ -52,9 +74,10 @@ nothing_written call idle same none = idle (record { no-event = none; output = s
 print_means : (call : TopCall) (limits bytes : List ℕ) (cause : Cause) → (IsIdle call.journal call.out → IsUntouched call)
     → HasSource call command.Print limits bytes → PrintedSource limits cause bytes call.out → call.journal ≡ [] → Means cause call
 print_means call limits bytes Quiet idle has printed none = absurd printed
+print_means call limits bytes Accepted idle has printed none = absurd printed
 print_means call limits bytes Written idle has printed none = (limits, bytes, printed.0, has, printed.1, none, printed.2)
 print_means call limits bytes (Refused refusal) idle has printed none =
-    (nothing_written call idle printed.1 none, (command.Print, limits, bytes, has, printed.0.comes))
+    (nothing_written call idle printed.1 none, (command.Print, limits, bytes, has, inl printed.0.comes))
 print_means call limits bytes (Usage number) idle has printed none = absurd printed
 print_means call limits bytes ReadFault idle has printed none = absurd printed
 print_means call limits bytes WriteFault idle has printed none = inl (limits, bytes, inr (printed.0, has, printed.1, none, printed.2))
@@ -64,6 +87,7 @@ print_means call limits bytes Unbuilt idle has printed none = absurd printed
 came_means : (call : TopCall) (command : Command) (limits bytes : List ℕ) (cause : Cause) → (IsIdle call.journal call.out → IsUntouched call)
     → HasSource call command limits bytes → Came command limits cause bytes call.journal call.out → Means cause call
 came_means call command.Run limits bytes cause idle has came = run_means call limits bytes cause idle has came
+came_means call command.Check limits bytes cause idle has came = check_means call limits bytes cause (idle came.1) has came.0
 came_means call command.Print limits bytes cause idle has came = print_means call limits bytes cause idle has came.0 came.1
 
 found_means : (call : TopCall) (went : Went call) → Means went.found call
@@ -84,6 +108,7 @@ found_means call went =
 -- after the causes that something may take the place of, nothing was done
 early_untouched : (call : TopCall) (cause : Cause) → IsEarly cause → Means cause call → IsUntouched call
 early_untouched call Quiet early means = absurd early
+early_untouched call Accepted early means = absurd early
 early_untouched call Written early means = absurd early
 early_untouched call (Refused refusal) early means = means.0
 early_untouched call (Usage number) early means = means.0
@@ -109,6 +134,7 @@ means_cause call went =
 run_failed : (limits : List ℕ) (cause : Cause) (bytes journal : List ℕ) (out : Change SinkState) → RanSource limits cause bytes journal out
     → HasFailed out → cause ≡ WriteFault
 run_failed limits Quiet bytes journal out ran failed = absurd (whole_or_failed out ran.2.world.shared.output ran.2.gets failed)
+run_failed limits Accepted bytes journal out ran failed = absurd ran
 run_failed limits Written bytes journal out ran failed = absurd ran
 run_failed limits (Refused refusal) bytes journal out ran failed = absurd (idle_or_failed out ran.1.output failed)
 run_failed limits (Usage number) bytes journal out ran failed = absurd ran
@@ -123,6 +149,7 @@ run_failed limits Unbuilt bytes journal out ran failed = absurd (idle_or_failed 
 print_failed : (limits : List ℕ) (cause : Cause) (bytes : List ℕ) (out : Change SinkState) → PrintedSource limits cause bytes out
     → HasFailed out → cause ≡ WriteFault
 print_failed limits Quiet bytes out printed failed = absurd printed
+print_failed limits Accepted bytes out printed failed = absurd printed
 print_failed limits Written bytes out printed failed = absurd (whole_or_failed out printed.0 printed.2 failed)
 print_failed limits (Refused refusal) bytes out printed failed = absurd (idle_or_failed out printed.1 failed)
 print_failed limits (Usage number) bytes out printed failed = absurd printed
@@ -134,6 +161,7 @@ print_failed limits Unbuilt bytes out printed failed = absurd printed
 came_failed : (command : Command) (limits : List ℕ) (cause : Cause) (bytes journal : List ℕ) (out : Change SinkState)
     → Came command limits cause bytes journal out → HasFailed out → cause ≡ WriteFault
 came_failed command.Run limits cause bytes journal out came failed = run_failed limits cause bytes journal out came failed
+came_failed command.Check limits cause bytes journal out came failed = absurd (idle_or_failed out came.1.output failed)
 came_failed command.Print limits cause bytes journal out came failed = print_failed limits cause bytes out came.0 failed
 
 out_failed : (call : TopCall) (went : Went call) → HasFailed call.out → went.found ≡ WriteFault
@@ -250,6 +278,7 @@ made_telling call cause file means text tells =
 telling : (call : TopCall) (cause : Cause) (file : Word) → Means cause call → IsTextOf call cause (cause_text cause file)
     → Tells cause call.cause file call.err → Telling call (cause_text call.cause file)
 telling call Quiet file means text tells = inl (nothing_told Quiet call.cause file call.err refl tells)
+telling call Accepted file means text tells = inl (nothing_told Accepted call.cause file call.err refl tells)
 telling call Written file means text tells = inl (nothing_told Written call.cause file call.err refl tells)
 telling call (Refused refusal) file means text tells = made_telling call (Refused refusal) file means text tells
 telling call (Usage number) file means text tells = made_telling call (Usage number) file means text tells

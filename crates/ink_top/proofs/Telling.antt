@@ -9,7 +9,7 @@ use Rattle.ink_top.specs.Calls.{TriesLine, IsFront, Replaces, TellsMade, TellsNo
 use Rattle.ink_top.specs.Causes.{cause_text, IsFault}
 use Rattle.ink_top.specs.Devices.{Change, SinkState, HasFailed, Gets, Cuts}
 use Rattle.ink_top.specs.declared.cause.Cause.{Cause}
-use Rattle.ink_top.specs.declared.cause.Cause.TheVariants.{Quiet, Written, Refused, Usage, ReadFault, WriteFault, OutOfMemory, Unbuilt}
+use Rattle.ink_top.specs.declared.cause.Cause.TheVariants.{Quiet, Accepted, Written, Refused, Usage, ReadFault, WriteFault, OutOfMemory, Unbuilt}
 use Rattle.ink_top.proofs.Stands.{from_to, gets_nothing}
 
 -- a fault below the greatest count shows
@@ -50,6 +50,7 @@ replaces old mid new text line below cuts counts stays tries =
 -- the causes after which nothing was done
 abbrev pub IsEarly : Cause → Type 0
 IsEarly Quiet = ⊥
+IsEarly Accepted = ⊥
 IsEarly Written = ⊥
 IsEarly (Refused refusal) = ⊤
 IsEarly (Usage number) = ⊤
@@ -76,6 +77,7 @@ made_told cause told file err early tells = elim tells [
 pub told_as : (cause told : Cause) (file : Word) (err : Change SinkState) → Tells cause told file err
     → told ≡ cause ⊎ (IsEarly cause × TakesPlace told err)
 told_as Quiet told file err tells = inl tells.0
+told_as Accepted told file err tells = inl tells.0
 told_as Written told file err tells = inl tells.0
 told_as (Refused refusal) told file err tells = made_told (Refused refusal) told file err tt tells
 told_as (Usage number) told file err tells = made_told (Usage number) told file err tt tells
@@ -126,6 +128,7 @@ made_failed cause told file err tells failed = elim tells [
 pub tells_failed : (cause told : Cause) (file : Word) (err : Change SinkState) → Tells cause told file err → HasFailed err
     → told ≡ WriteFault ⊎ told ≡ OutOfMemory
 tells_failed Quiet told file err tells failed = absurd (idle_or_failed err tells.1 failed)
+tells_failed Accepted told file err tells failed = absurd (idle_or_failed err tells.1 failed)
 tells_failed Written told file err tells failed = absurd (idle_or_failed err tells.1 failed)
 tells_failed (Refused refusal) told file err tells failed = made_failed (Refused refusal) told file err tells failed
 tells_failed (Usage number) told file err tells failed = made_failed (Usage number) told file err tells failed

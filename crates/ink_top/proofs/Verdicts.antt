@@ -10,7 +10,7 @@ use Rattle.ink_reading.specs.Reading.{Reads, Refuses, ComesTo, ComesOnlyTo, Answ
 use Rattle.ink_first.specs.FirstForm.{IsFirstForm}
 use Rattle.ink_first.specs.Reading.{Finds}
 use Rattle.std.specs.declared.alloc.Global.{Global}
-use Rattle.ink_top.specs.Verdict.{no_main, Verdict, Accepted, Refused, Unbuilt, IsVerdict, IsOnlyVerdict, Judges}
+use Rattle.ink_top.specs.Verdict.{no_main, Verdict, Accepted, Refused, Further, IsVerdict, IsOnlyVerdict, Judges}
 use Rattle.ink_top.specs.World.{Program}
 use Rattle.ink_top.specs.declared.verdict.ModuleKind.{ModuleKind}
 use Rattle.ink_top.specs.declared.verdict.ModuleKind.TheVariants as kind
@@ -48,7 +48,7 @@ accepted_only limits bytes tokens tree program reads form only (Refused refusal)
   | inr it ↦ absurd (no_form bytes program
       (subst (λ (t : List Token). IsFirstForm bytes t program) (sym (read_alike limits bytes tokens [] tree it.0 reads it.1)) form))
 ]
-accepted_only limits bytes tokens tree program reads form only Unbuilt is =
+accepted_only limits bytes tokens tree program reads form only Further is =
     absurd (is.no_form program
     (subst (λ (t : List Token). IsFirstForm bytes t program) (sym (read_alike limits bytes tokens is.tokens tree is.tree reads is.reads)) form))
 
@@ -62,21 +62,21 @@ is_accepted limits bytes tokens tree program reads form only = record {
 
 -- another module
 
-unbuilt_only : (limits bytes : List ℕ) (tokens : List Token) (tree : Tree) → ComesOnlyTo limits bytes (Reads tokens tree) → tokens ≢ []
-    → ((program : Program) → IsFirstForm bytes tokens program → ⊥) → (other : Verdict) → IsVerdict limits bytes other → other ≡ Unbuilt
-unbuilt_only limits bytes tokens tree reads some none (Accepted other) is =
+further_only : (limits bytes : List ℕ) (tokens : List Token) (tree : Tree) → ComesOnlyTo limits bytes (Reads tokens tree) → tokens ≢ []
+    → ((program : Program) → IsFirstForm bytes tokens program → ⊥) → (other : Verdict) → IsVerdict limits bytes other → other ≡ Further
+further_only limits bytes tokens tree reads some none (Accepted other) is =
     absurd (none other (subst (λ (t : List Token). IsFirstForm bytes t other) (read_alike limits bytes tokens is.tokens tree is.tree reads is.reads) is.form))
-unbuilt_only limits bytes tokens tree reads some none (Refused refusal) is = elim is [
+further_only limits bytes tokens tree reads some none (Refused refusal) is = elim is [
   | inl refuses ↦ absurd (not_refused limits bytes tokens tree refusal reads refuses)
   | inr it ↦ absurd (some (sym (read_alike limits bytes tokens [] tree it.0 reads it.1)))
 ]
-unbuilt_only limits bytes tokens tree reads some none Unbuilt is = refl
+further_only limits bytes tokens tree reads some none Further is = refl
 
-pub is_unbuilt : (limits bytes : List ℕ) (tokens : List Token) (tree : Tree) → ComesOnlyTo limits bytes (Reads tokens tree) → tokens ≢ []
-    → ((program : Program) → IsFirstForm bytes tokens program → ⊥) → IsOnlyVerdict limits bytes Unbuilt
-is_unbuilt limits bytes tokens tree reads some none = record {
+pub is_further : (limits bytes : List ℕ) (tokens : List Token) (tree : Tree) → ComesOnlyTo limits bytes (Reads tokens tree) → tokens ≢ []
+    → ((program : Program) → IsFirstForm bytes tokens program → ⊥) → IsOnlyVerdict limits bytes Further
+is_further limits bytes tokens tree reads some none = record {
   is = record { tokens = tokens; tree = tree; reads = reads.comes; some = some; no_form = none };
-  only = unbuilt_only limits bytes tokens tree reads some none;
+  only = further_only limits bytes tokens tree reads some none;
 }
 
 -- no token
@@ -89,7 +89,7 @@ no_main_only limits bytes tree reads (Refused refusal) is = elim is [
   | inl refuses ↦ absurd (not_refused limits bytes [] tree refusal reads refuses)
   | inr it ↦ ap Refused it.2
 ]
-no_main_only limits bytes tree reads Unbuilt is = absurd (is.some (read_alike limits bytes [] is.tokens tree is.tree reads is.reads))
+no_main_only limits bytes tree reads Further is = absurd (is.some (read_alike limits bytes [] is.tokens tree is.tree reads is.reads))
 
 pub is_no_main : (limits bytes : List ℕ) (tokens : List Token) (tree : Tree) → ComesOnlyTo limits bytes (Reads tokens tree) → tokens ≡ []
     → IsOnlyVerdict limits bytes (Refused no_main)
@@ -109,7 +109,7 @@ refused_only limits bytes refusal refuses (Refused other) is = elim is [
   | inl it ↦ ap Refused (same_refusal other refusal (refuses.only (Refuses other) it))
   | inr it ↦ absurd (apart [] it.0 refusal (sym (refuses.only (Reads [] it.0) it.1)))
 ]
-refused_only limits bytes refusal refuses Unbuilt is =
+refused_only limits bytes refusal refuses Further is =
     absurd (apart is.tokens is.tree refusal (sym (refuses.only (Reads is.tokens is.tree) is.reads)))
 
 pub is_refused : (limits bytes : List ℕ) (refusal : Refusal) → ComesOnlyTo limits bytes (Refuses refusal)
@@ -142,11 +142,11 @@ form_found {E} limits bytes tokens listed tree texts result finds is same reads 
 
 pub form_missed : {E : Type 0} (limits bytes : List ℕ) (tokens listed : List Token) (tree : Tree)
     (result : Result (Option (Vec (List ℕ) Global)) E) → Finds (IsFirstForm bytes listed) result → result ≡ Ok None → listed ≡ tokens
-    → (tokens ≡ [] → ⊥) → ComesOnlyTo limits bytes (Reads tokens tree) → IsOnlyVerdict limits bytes Unbuilt
+    → (tokens ≡ [] → ⊥) → ComesOnlyTo limits bytes (Reads tokens tree) → IsOnlyVerdict limits bytes Further
 form_missed {E} limits bytes tokens listed tree result finds is same some reads =
     let here : Finds {E = E} (IsFirstForm bytes tokens) (Ok None) =
     subst (λ (t : List Token). Finds {E = E} (IsFirstForm bytes t) (Ok None)) same (subst (Finds (IsFirstForm bytes listed)) is finds) in
-    is_unbuilt limits bytes tokens tree reads some here
+    is_further limits bytes tokens tree reads some here
 
 pub is_first : (limits bytes : List ℕ) (found : ModuleKind) (texts : Vec (List ℕ) Global) → Judges limits bytes (Ok found) → found ≡ kind.First texts
     → IsOnlyVerdict limits bytes (Accepted texts.items)

@@ -6,6 +6,8 @@ use Rattle.ink_devices.specs.Outside.{Reads, CountsFault, appended, CutsWrite}
 use Rattle.ink_words.specs.declared.command.Command.{Command}
 use Rattle.ink_words.specs.declared.command.Command.TheVariants as command
 use Rattle.ink_words.specs.Commands.{Word, Asked, IsOrder, IsWrongWord}
+use Rattle.ink_base.specs.declared.refusal.Refusal.{Refusal}
+use Rattle.ink_names.specs.Later.{IsLater}
 use Rattle.ink_reading.specs.Reading as reading
 use Rattle.ink_top.specs.Causes.{cause_text}
 use Rattle.ink_top.specs.Devices.{Change, FilesState, SinkState, HasFailed, Gets, Cuts}
@@ -15,7 +17,7 @@ use Rattle.ink_top.specs.Verdict.{IsOnlyVerdict}
 use Rattle.ink_top.specs.Verdict as verdict
 use Rattle.ink_top.specs.World.{Program, IsQuiet}
 use Rattle.ink_top.specs.declared.cause.Cause.{Cause}
-use Rattle.ink_top.specs.declared.cause.Cause.TheVariants.{Quiet, Written, Refused, Usage, ReadFault, WriteFault, OutOfMemory, Unbuilt}
+use Rattle.ink_top.specs.declared.cause.Cause.TheVariants.{Quiet, Accepted, Written, Refused, Usage, ReadFault, WriteFault, OutOfMemory, Unbuilt}
 
 -- how many bytes of a file are read at most: one more than a source may have, so that a longer one shows
 abbrev pub most_read : List ℕ → ℕ
@@ -32,24 +34,55 @@ pub record IsIdle (journal : List ℕ) (out : Change SinkState) : Type 0 where
   pub no-event : journal ≡ []
   pub output : out.after ≡ out.before
 
+-- what is left of a module that the phases behind the reading judge: a refusal of theirs, or more than what is built
+abbrev pub IsLeft : Cause → Type 0
+IsLeft Quiet = ⊥
+IsLeft Accepted = ⊥
+IsLeft Written = ⊥
+IsLeft (Refused refusal) = IsLater refusal
+IsLeft (Usage number) = ⊥
+IsLeft ReadFault = ⊥
+IsLeft WriteFault = ⊥
+IsLeft OutOfMemory = Unit {0}
+IsLeft Unbuilt = Unit {0}
+
+-- a source is refused: by its reading, or by a phase behind it
+abbrev pub IsRefusedBy : List ℕ → List ℕ → Refusal → Type 0
+IsRefusedBy limits bytes refusal =
+    IsOnlyVerdict limits bytes (verdict.Refused refusal) ⊎ (IsOnlyVerdict limits bytes verdict.Further × IsLater refusal)
+
+-- What came of a source that is to be checked, by the cause.
+abbrev pub CheckedSource : List ℕ → Cause → List ℕ → Type 0
+CheckedSource limits Quiet bytes = ⊥
+CheckedSource limits Accepted bytes = (program : Program) × IsOnlyVerdict limits bytes (verdict.Accepted program)
+CheckedSource limits Written bytes = ⊥
+CheckedSource limits (Refused refusal) bytes = IsRefusedBy limits bytes refusal
+CheckedSource limits (Usage number) bytes = ⊥
+CheckedSource limits ReadFault bytes = ⊥
+CheckedSource limits WriteFault bytes = ⊥
+CheckedSource limits OutOfMemory bytes = Unit {0}
+CheckedSource limits Unbuilt bytes = IsOnlyVerdict limits bytes verdict.Further
+
 -- What came of a source that is to run, by the cause.
 abbrev pub RanSource : List ℕ → Cause → List ℕ → List ℕ → Change SinkState → Type 0
 RanSource limits Quiet bytes journal out =
     (program : Program) × IsOnlyVerdict limits bytes (verdict.Accepted program) × (it : Replays program journal out) × IsQuiet it.world
+RanSource limits Accepted bytes journal out = ⊥
 RanSource limits Written bytes journal out = ⊥
-RanSource limits (Refused refusal) bytes journal out = IsOnlyVerdict limits bytes (verdict.Refused refusal) × IsIdle journal out
+RanSource limits (Refused refusal) bytes journal out = IsRefusedBy limits bytes refusal × IsIdle journal out
 RanSource limits (Usage number) bytes journal out = ⊥
 RanSource limits ReadFault bytes journal out = ⊥
 RanSource limits WriteFault bytes journal out =
     (program : Program) × IsOnlyVerdict limits bytes (verdict.Accepted program) × ReplaysCut program journal out
 RanSource limits OutOfMemory bytes journal out =
     IsIdle journal out ⊎ ((program : Program) × IsOnlyVerdict limits bytes (verdict.Accepted program) × Replays program journal out)
-RanSource limits Unbuilt bytes journal out = IsOnlyVerdict limits bytes verdict.Unbuilt × IsIdle journal out
+RanSource limits Unbuilt bytes journal out = IsOnlyVerdict limits bytes verdict.Further × IsIdle journal out
 
 -- What came of a source that is to be printed, by the cause. No cause comes with an event, and without memory nothing
 -- was written.
 abbrev pub PrintedSource : List ℕ → Cause → List ℕ → Change SinkState → Type 0
 PrintedSource limits Quiet bytes out = ⊥
+PrintedSource limits Accepted bytes out = ⊥
 PrintedSource limits Written bytes out = (text : List ℕ) × IsPrint limits bytes text × Gets out text
 PrintedSource limits (Refused refusal) bytes out =
     reading.ComesOnlyTo limits bytes (reading.Refuses refusal) × (out.after ≡ out.before)
@@ -62,6 +95,7 @@ PrintedSource limits Unbuilt bytes out = ⊥
 -- what came of a source, by the command
 abbrev pub Came : Command → List ℕ → Cause → List ℕ → List ℕ → Change SinkState → Type 0
 Came command.Run limits cause bytes journal out = RanSource limits cause bytes journal out
+Came command.Check limits cause bytes journal out = CheckedSource limits cause bytes × IsIdle journal out
 Came command.Print limits cause bytes journal out = PrintedSource limits cause bytes out × (journal ≡ [])
 
 -- What came of a file. Either its first bytes were read, or nothing was done.
@@ -122,6 +156,7 @@ TellsNothing cause told err = (told ≡ cause) × (err.after ≡ err.before)
 -- how a cause is told, and what cause then holds
 abbrev pub Tells : Cause → Cause → Word → Change SinkState → Type 0
 Tells Quiet told file err = TellsNothing Quiet told err
+Tells Accepted told file err = TellsNothing Accepted told err
 Tells Written told file err = TellsNothing Written told err
 Tells (Refused refusal) told file err = TellsMade (Refused refusal) told file err
 Tells (Usage number) told file err = TellsMade (Usage number) told file err

@@ -1,5 +1,5 @@
 -- What the top call promises.
-use Rattle.std.specs.Prelude.{◌≡◌, ℕ, ◌<◌, ◌⊎◌, List, [], ◌++◌, take, Option, None, Some, option_map}
+use Rattle.std.specs.Prelude.{◌≡◌, ℕ, ◌<◌, ◌⊎◌, Bool, true, false, List, [], ◌++◌, take, Option, None, Some, option_map}
 use Rattle.ink_devices.specs.Outside.{Directory, Reads, appended}
 use Rattle.ink_base.specs.declared.token.Token.{Token}
 use Rattle.ink_base.specs.declared.refusal.Refusal.{Refusal}
@@ -9,16 +9,17 @@ use Rattle.ink_words.specs.Commands.{Word, Asked, asked, IsOrder, IsWrongWord}
 use Rattle.ink_grammar.specs.Tree.{Tree}
 use Rattle.ink_reading.specs.Reading as reading
 use Rattle.ink_print.specs.Layout.{print}
+use Rattle.ink_names.specs.Later.{IsLater}
 use Rattle.ink_top.specs.Causes.{cause_text, IsFault}
 use Rattle.ink_top.specs.Calls.{IsFront, IsCutFront, most_read}
 use Rattle.ink_top.specs.Devices.{Change, FilesState, SinkState, KeepsFiles, HasFailed, Gets, Cuts}
 use Rattle.ink_top.specs.Runs.{Replays, ReplaysCut}
 use Rattle.ink_round.specs.ReadsBack.{IsPrint, ReadsBack}
-use Rattle.ink_top.specs.Verdict.{IsAccepted, IsUnbuilt}
+use Rattle.ink_top.specs.Verdict.{IsAccepted, IsFurther}
 use Rattle.ink_top.specs.Verdict as verdict
 use Rattle.ink_top.specs.World.{Program, IsQuiet}
 use Rattle.ink_top.specs.declared.cause.Cause.{Cause}
-use Rattle.ink_top.specs.declared.cause.Cause.TheVariants.{Quiet, Written, Refused, Usage, ReadFault, WriteFault, OutOfMemory, Unbuilt}
+use Rattle.ink_top.specs.declared.cause.Cause.TheVariants.{Quiet, Accepted, Written, Refused, Usage, ReadFault, WriteFault, OutOfMemory, Unbuilt}
 
 -- A call, as it is seen from outside: its words, how each device changed, and what it answered.
 pub record TopCall : Type 0 where
@@ -45,16 +46,26 @@ StandUnder (Some directory) file limits bytes = option_map (take (most_read limi
 abbrev pub TakesSource : TopCall → Asked → List ℕ → Type 0
 TakesSource call asked bytes = IsOrder asked call.words × StandUnder call.files.before.held asked.file asked.limits bytes
 
--- the words run such a file, or print one, within these limits
+-- the words run such a file, check one, or print one, within these limits
 abbrev pub RunsSource : TopCall → List ℕ → List ℕ → Type 0
 RunsSource call limits bytes = (file : Word) × TakesSource call (asked command.Run file limits) bytes
+
+abbrev pub ChecksSource : TopCall → List ℕ → List ℕ → Type 0
+ChecksSource call limits bytes = (file : Word) × TakesSource call (asked command.Check file limits) bytes
 
 abbrev pub PrintsSource : TopCall → List ℕ → List ℕ → Type 0
 PrintsSource call limits bytes = (file : Word) × TakesSource call (asked command.Print file limits) bytes
 
--- what a command refuses of a source: a run, also that it has no token
+-- whether a command judges a source, and doesn't only read it
+abbrev pub is_to_judge : Command → Bool
+is_to_judge command.Run = true
+is_to_judge command.Check = true
+is_to_judge command.Print = false
+
+-- what a command refuses of a source by its reading: what is judged, also that it has no token
 abbrev pub IsRefused : Command → List ℕ → List ℕ → Refusal → Type 0
 IsRefused command.Run limits bytes refusal = verdict.IsRefused limits bytes refusal
+IsRefused command.Check limits bytes refusal = verdict.IsRefused limits bytes refusal
 IsRefused command.Print limits bytes refusal = reading.ComesTo limits bytes (reading.Refuses refusal)
 
 -- A refused module: nothing was done, and the cause is the refusal, unless a device failed or memory ran out.
@@ -63,11 +74,22 @@ RefusesModule call = (asked : Asked) (bytes : List ℕ) (refusal : Refusal)
     → TakesSource call asked bytes → IsRefused asked.command asked.limits bytes refusal
     → IsUntouched call × (call.cause ≡ Refused refusal ⊎ IsFault call.cause)
 
--- A module that is read, and is more than what runs so far: nothing was done, and the cause says so, unless a device
--- failed or memory ran out.
+-- a phase behind the reading refuses it, or it is more than what is built so far
+abbrev pub IsLaterCause : Cause → Type 0
+IsLaterCause cause = ((refusal : Refusal) × (cause ≡ Refused refusal) × IsLater refusal) ⊎ (cause ≡ Unbuilt)
+
+-- A module that is read, and is judged by the phases behind: nothing was done, and the cause is a refusal of theirs or
+-- says that it is more than what is built, unless a device failed or memory ran out.
 abbrev pub LeavesUnbuilt : TopCall → Type 0
-LeavesUnbuilt call = (limits bytes : List ℕ) → RunsSource call limits bytes → IsUnbuilt limits bytes
-    → IsUntouched call × (call.cause ≡ Unbuilt ⊎ IsFault call.cause)
+LeavesUnbuilt call = (asked : Asked) (bytes : List ℕ)
+    → TakesSource call asked bytes → is_to_judge asked.command ≡ true → IsFurther asked.limits bytes
+    → IsUntouched call × (IsLaterCause call.cause ⊎ IsFault call.cause)
+
+-- An accepted module that is to be checked: nothing was done, and the cause says so, unless a device failed or memory
+-- ran out.
+abbrev pub AcceptsModule : TopCall → Type 0
+AcceptsModule call = (limits bytes : List ℕ) (program : Program) → ChecksSource call limits bytes → IsAccepted limits bytes program
+    → IsUntouched call × (call.cause ≡ Accepted ⊎ IsFault call.cause)
 
 -- The output of an accepted module: that of the journal's replay, whole where the sink didn't fail, and else cut
 -- within the last print.
@@ -121,21 +143,29 @@ CutsOutput call = (limits : List ℕ) × (bytes : List ℕ) × (((program : Prog
     × HasSource call command.Run limits bytes × IsAccepted limits bytes program × ReplaysCut program call.journal call.out)
     ⊎ ((text : List ℕ) × HasSource call command.Print limits bytes × IsPrint limits bytes text × (call.journal ≡ []) × Cuts call.out text))
 
+-- what a command may refuse of a source: what its reading breaks, and where the command judges it, what the phases
+-- behind the reading say
+abbrev pub MayRefuse : Command → List ℕ → List ℕ → Refusal → Type 0
+MayRefuse command limits bytes refusal =
+    IsRefused command limits bytes refusal ⊎ ((is_to_judge command ≡ true) × IsFurther limits bytes × IsLater refusal)
+
 -- The table of causes: what each one says of a call.
 abbrev pub Means : Cause → TopCall → Type 0
 Means Quiet call = (ran : RunsModule call) × IsQuiet ran.replays.world
+Means Accepted call = IsUntouched call × ((limits : List ℕ) × (bytes : List ℕ) × (program : Program)
+    × HasSource call command.Check limits bytes × IsAccepted limits bytes program)
 Means Written call = (limits : List ℕ) × (bytes : List ℕ) × (text : List ℕ) × HasSource call command.Print limits bytes
     × IsPrint limits bytes text × (call.journal ≡ []) × Gets call.out text
 Means (Refused refusal) call = IsUntouched call × ((command : Command) × (limits : List ℕ) × (bytes : List ℕ)
-    × HasSource call command limits bytes × IsRefused command limits bytes refusal)
+    × HasSource call command limits bytes × MayRefuse command limits bytes refusal)
 Means (Usage number) call = IsUntouched call × IsWrongWord call.words number
 Means ReadFault call = IsUntouched call × ((asked : Asked) × IsOrder asked call.words
     × (call.files.before.reads.count < call.files.after.reads.count) × (call.files.after.reads.name ≡ Some asked.file))
 Means WriteFault call = CutsOutput call ⊎ (IsUntouched call × HasFailed call.err)
 -- memory may run out at any time: of a print nothing was written then
 Means OutOfMemory call = IsUntouched call ⊎ RunsModule call
-Means Unbuilt call = IsUntouched call × ((limits : List ℕ) × (bytes : List ℕ)
-    × HasSource call command.Run limits bytes × IsUnbuilt limits bytes)
+Means Unbuilt call = IsUntouched call × ((command : Command) × (limits : List ℕ) × (bytes : List ℕ)
+    × HasSource call command limits bytes × (is_to_judge command ≡ true) × IsFurther limits bytes)
 
 -- the cause means what the table says
 abbrev pub MeansCause : TopCall → Type 0
@@ -181,6 +211,7 @@ TellsCause call = (text : List ℕ) × IsTextOf call call.cause text × (Gets ca
 pub record IsPromised (call : TopCall) : Type 0 where
   pub refused_module : RefusesModule call
   pub unbuilt : LeavesUnbuilt call
+  pub accepted : AcceptsModule call
   pub output : WritesOutput call
   pub end : ReachesEnd call
   pub print : WritesPrint call

@@ -1,4 +1,4 @@
--- What becomes of a source that is to run.
+-- What becomes of a source that is to be judged, by its reading.
 use Rattle.std.specs.Prelude.{◌≡◌, ◌≢◌, ℕ, ◌⊎◌, List, [], None, Result, Ok, Err}
 use Rattle.ink_base.specs.declared.token.Token.{Token}
 use Rattle.ink_base.specs.declared.refusal.Refusal.{Refusal}
@@ -28,24 +28,24 @@ abbrev pub IsRefused : List ℕ → List ℕ → Refusal → Type 0
 IsRefused limits bytes refusal =
     ComesTo limits bytes (Refuses refusal) ⊎ ((tree : Tree) × ComesTo limits bytes (Reads [] tree) × (refusal ≡ no_main))
 
--- the bytes are a module that is read, has a token, and isn't of the first form
-pub record IsUnbuilt (limits bytes : List ℕ) : Type 0 where
+-- the bytes are a module that is read, has a token, and isn't of the first form: the phases behind the reading judge it
+pub record IsFurther (limits bytes : List ℕ) : Type 0 where
   pub tokens : List Token
   pub tree : Tree
   pub reads : ComesTo limits bytes (Reads tokens tree)
   pub some : tokens ≢ []
   pub no_form : (program : Program) → IsFirstForm bytes tokens program → ⊥
 
--- what becomes of a source that is to run
+-- what becomes of a source that is to be judged
 pub data Verdict : Type 0 where
   Accepted : (program : Program) → Verdict
   Refused : (refusal : Refusal) → Verdict
-  Unbuilt : Verdict
+  Further : Verdict
 
 abbrev pub IsVerdict : List ℕ → List ℕ → Verdict → Type 0
 IsVerdict limits bytes (Accepted program) = IsAccepted limits bytes program
 IsVerdict limits bytes (Refused refusal) = IsRefused limits bytes refusal
-IsVerdict limits bytes Unbuilt = IsUnbuilt limits bytes
+IsVerdict limits bytes Further = IsFurther limits bytes
 
 -- this becomes of it, and nothing else
 pub record IsOnlyVerdict (limits bytes : List ℕ) (verdict : Verdict) : Type 0 where
@@ -55,6 +55,6 @@ pub record IsOnlyVerdict (limits bytes : List ℕ) (verdict : Verdict) : Type 0 
 -- the answer is the verdict; where there was no memory, nothing is known
 abbrev pub Judges : List ℕ → List ℕ → Result ModuleKind JudgeFault → Type 0
 Judges limits bytes (Ok (kind.First texts)) = IsOnlyVerdict limits bytes (Accepted texts.items)
-Judges limits bytes (Ok kind.Other) = IsOnlyVerdict limits bytes Unbuilt
+Judges limits bytes (Ok (kind.Other parsed)) = IsOnlyVerdict limits bytes Further
 Judges limits bytes (Err (fault.Refused refusal)) = IsOnlyVerdict limits bytes (Refused refusal)
 Judges limits bytes (Err fault.OutOfMemory) = Unit {0}

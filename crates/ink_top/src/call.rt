@@ -1,11 +1,11 @@
-//! The call of the program: words, the source, the run or the print, and what is told of the cause.
+//! The call of the program: words, the source, what is done with it, and what is told of the cause.
 ghost use Rattle.std.specs.Prelude.{◌≡◌, ◌<◌, ◌≤◌, [], IfOk, OnOk, IfErr};
 ghost use Rattle.ink_devices.specs.Outside.{greatest_count, Reads};
-ghost use Rattle.ink_words.specs.declared.command.Command.TheVariants.{Run, Print};
+ghost use Rattle.ink_words.specs.declared.command.Command.TheVariants.{Run, Check, Print};
 ghost use Rattle.ink_words.specs.Commands.{asked, asked_by};
-ghost use Rattle.ink_top.specs.Calls.{most_read, IsUnread, Did, Performed, PrintedSource, RanSource, TriesLine, TellsMade, Tells};
+ghost use Rattle.ink_top.specs.Calls.{most_read, IsUnread, IsLeft, CheckedSource, Did, Performed, PrintedSource, RanSource, TriesLine, TellsMade, Tells};
 ghost use Rattle.ink_top.specs.Causes.{status_of};
-ghost use Rattle.ink_top.specs.Devices.{KeepsFiles, files_of, sink_of};
+ghost use Rattle.ink_top.specs.Devices.{KeepsFiles, SinkState, files_of, sink_of};
 ghost use Rattle.ink_top.specs.Headline.{IsPromised};
 
 use crate::cause::Cause;
@@ -13,9 +13,34 @@ use crate::run::{RunFault, run};
 use crate::verdict::{ModuleKind, judge};
 use ink_base::{Journal, JudgeFault, Limit, Limits, Text};
 use ink_devices::{Failed, FileFault, Files, Gate, Sink, write_whole};
+use ink_front::judge_further;
+use ink_grammar::Module;
 use ink_round::{print_reads_back, print_source};
 use ink_words::{Order, read_words};
 use std::alloc::Global;
+
+/// Judges a module by the phases behind its reading, and leaves it there: what they don't refuse isn't built yet.
+fn leave(alloc: Global, source: &[u8], parsed: &Module) -> Cause
+    ensures { IsLeft result }
+{
+    match judge_further(alloc, source, parsed) {
+        Err(JudgeFault::Refused(refusal)) => Cause::Refused(refusal),
+        Err(JudgeFault::OutOfMemory) => Cause::OutOfMemory,
+        Ok(()) => Cause::Unbuilt,
+    }
+}
+
+/// Judges a source.
+fn check_source(alloc: Global, source: &[u8], limits: &Limits) -> Cause
+    ensures { CheckedSource limits.now result source.now }
+{
+    match judge(alloc, source, limits) {
+        Err(JudgeFault::Refused(refusal)) => Cause::Refused(refusal),
+        Err(JudgeFault::OutOfMemory) => Cause::OutOfMemory,
+        Ok(ModuleKind::Other(parsed)) => leave(alloc, source, &parsed),
+        Ok(ModuleKind::First(_)) => Cause::Accepted,
+    }
+}
 
 /// Judges a source, and runs it where it is accepted.
 fn run_source<K: Sink>(
@@ -33,7 +58,7 @@ fn run_source<K: Sink>(
     match judge(alloc, source, limits) {
         Err(JudgeFault::Refused(refusal)) => Cause::Refused(refusal),
         Err(JudgeFault::OutOfMemory) => Cause::OutOfMemory,
-        Ok(ModuleKind::Other) => Cause::Unbuilt,
+        Ok(ModuleKind::Other(parsed)) => leave(alloc, source, &parsed),
         Ok(ModuleKind::First(texts)) => match run(alloc, &texts, journal, out) {
             Ok(()) => Cause::Quiet,
             Err(RunFault::SinkFailed) => Cause::WriteFault,
@@ -114,6 +139,27 @@ fn run_file<F: Files, K: Sink>(
     }
 }
 
+/// Reads a file, and judges it.
+fn check_file<F: Files>(alloc: Global, file: &Text, limits: &Limits, files: &mut F) -> Cause
+    requires read_faults { (F.read_faults files.old).count < greatest_count }
+    ensures did { (out : SinkState) → Did (asked Check file.now limits.now) result
+        (record {
+          before = files_of F.held F.read_faults F.write_faults files.old;
+          after = files_of F.held F.read_faults F.write_faults files.new;
+        })
+        []
+        (record { before = out; after = out }) }
+    ensures files { KeepsFiles (record {
+      before = files_of F.held F.read_faults F.write_faults files.old;
+      after = files_of F.held F.read_faults F.write_faults files.new;
+    }) }
+{
+    match read_source(alloc, file, limits, files) {
+        Err(cause) => cause,
+        Ok(source) => check_source(alloc, &source, limits),
+    }
+}
+
 /// Reads a file, and writes its canonical print.
 fn print_file<F: Files, K: Sink>(
     alloc: Global,
@@ -177,6 +223,10 @@ fn obey<'a, F: Files, K: Sink>(
     match order {
         Order::Run { file, limits } => Found {
             cause: run_file(alloc, file, &limits, files, journal, out),
+            file: file.bytes(),
+        },
+        Order::Check { file, limits } => Found {
+            cause: check_file(alloc, file, &limits, files),
             file: file.bytes(),
         },
         Order::Print { file, limits } => Found {
@@ -250,7 +300,7 @@ fn tell<E: Sink>(alloc: Global, cause: Cause, file: &[u8], err: &mut E) -> Cause
     ensures { Tells cause result file.now (record { before = sink_of E.contents E.faults err.old; after = sink_of E.contents E.faults err.new }) }
 {
     match cause {
-        Cause::Quiet | Cause::Written => cause,
+        Cause::Quiet | Cause::Accepted | Cause::Written => cause,
         Cause::WriteFault => try_line(Cause::WriteFault, b"write fault\n", err),
         Cause::OutOfMemory => try_line(Cause::OutOfMemory, b"out of memory\n", err),
         early => tell_made(alloc, early, file, err),
@@ -266,11 +316,13 @@ pub struct Ended<K> {
     pub out: K,
 }
 
-/// Does what the words ask for: `run FILE` or `print FILE`, with their options. The number of workers changes nothing yet.
+/// Does what the words ask for: `run FILE`, `check FILE` or `print FILE`, with their options. The number of workers
+/// changes nothing yet.
 ///
-/// `run` judges the source and, where it is accepted, runs it; its output goes to `out`. `print` writes the canonical
-/// print of the source to `out`. Why the call ended is told on `err` in one line, unless a run came to its end or a print
-/// was written. No worker enters the gate before there are several.
+/// `run` judges the source and, where it is accepted, runs it; its output goes to `out`. `check` judges it and does
+/// nothing else. `print` writes the canonical print of the source to `out`. Why the call ended is told on `err` in one
+/// line, unless a run came to its end, a module was accepted or a print was written. No worker enters the gate before
+/// there are several.
 pub fn inko_main<F: Files, K: Sink + Send, E: Sink, G: Gate + Sync>(
     alloc: Global,
     words: &[Text],

@@ -11,6 +11,8 @@ use std::alloc::{AllocError, Global};
 pub enum Cause {
     /// The run came to its end: each process waits for a message, and there is none.
     Quiet,
+    /// The module holds all rules, and was to be checked. Nothing was done.
+    Accepted,
     /// The whole print was written.
     Written,
     /// The source breaks a rule. Nothing was done.
@@ -24,7 +26,8 @@ pub enum Cause {
     WriteFault,
     /// There was no memory. Of a print nothing was written; a run wrote all that its journal says.
     OutOfMemory,
-    /// The module is more than what runs so far, and nothing was done. It goes once all modules run.
+    /// The module is more than what is built so far, and nothing was done: the rules that are built hold. It goes once
+    /// all modules run.
     Unbuilt,
 }
 
@@ -35,6 +38,7 @@ impl Cause {
     {
         match self {
             Cause::Quiet => 0,
+            Cause::Accepted => 0,
             Cause::Written => 0,
             Cause::Refused(_) => 1,
             Cause::Usage(_) => 2,
@@ -53,6 +57,7 @@ impl Cause {
     {
         match self {
             Cause::Quiet => Ok(Vec::new(alloc)),
+            Cause::Accepted => Ok(Vec::new(alloc)),
             Cause::Written => Ok(Vec::new(alloc)),
             Cause::Refused(refusal) => line(alloc, b"", refusal.text(alloc)?.bytes()),
             Cause::Usage(number) => line(

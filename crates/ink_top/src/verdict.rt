@@ -1,8 +1,9 @@
-//! The verdict on a source, as far as it is built: a module of the first form, another module, or a refusal.
+//! The verdict on a source by its reading: a module of the first form, another module, or a refusal.
 ghost use Rattle.ink_top.specs.Verdict.{Judges};
 
 use ink_base::{JudgeFault, Limits, Place, Refusal, Rule, Text};
 use ink_first::first_form;
+use ink_grammar::Module;
 use ink_reading::read_module;
 use std::alloc::Global;
 
@@ -11,8 +12,8 @@ use std::alloc::Global;
 pub enum ModuleKind {
     /// Its main prints these texts, and does nothing else.
     First(Vec<Text>),
-    /// More than that.
-    Other,
+    /// More than that: what the phases behind the reading judge.
+    Other(Module),
 }
 
 /// What the module of a source is.
@@ -31,6 +32,6 @@ pub fn judge(alloc: Global, source: &[u8], limits: &Limits) -> Result<ModuleKind
     }
     match first_form(alloc, source, &reading.tokens)? {
         Some(texts) => Ok(ModuleKind::First(texts)),
-        None => Ok(ModuleKind::Other),
+        None => Ok(ModuleKind::Other(reading.module)),
     }
 }

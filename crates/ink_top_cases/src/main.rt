@@ -41,8 +41,9 @@ const CUT_FOR_GOOD: Plan = Plan {
 };
 
 /// The files of cases, each with what the read of the file comes to, and how output and errors fail.
-static CASES: [(&str, Reading, Plan, Plan); 10] = [
+static CASES: [(&str, Reading, Plan, Plan); 11] = [
     ("runs", Reading::Bytes, SOUND, SOUND),
+    ("checks", Reading::Bytes, SOUND, SOUND),
     ("refusals", Reading::Bytes, SOUND, SOUND),
     ("prints", Reading::Bytes, SOUND, SOUND),
     ("wrong_words", Reading::Bytes, SOUND, SOUND),

@@ -157,10 +157,21 @@ none_of_command P (Some x) command is = tt
 
 -- the first word
 
+-- the first byte of a word
+abbrev first_byte : Word → ℕ
+first_byte [] = 0
+first_byte (byte ∷ bytes) = byte
+
+-- two commands begin with different bytes: r is 114, c is 99, p is 112
 one_command : (one other : Command) → command_word one ≡ command_word other → one ≡ other
 one_command command.Run command.Run same = refl
-one_command command.Run command.Print same = absurd cc
-one_command command.Print command.Run same = absurd cc
+one_command command.Run command.Check same = let e : 114 ≡ 99 = ap first_byte same in absurd (omega (arith, e))
+one_command command.Run command.Print same = let e : 114 ≡ 112 = ap first_byte same in absurd (omega (arith, e))
+one_command command.Check command.Run same = let e : 99 ≡ 114 = ap first_byte same in absurd (omega (arith, e))
+one_command command.Check command.Check same = refl
+one_command command.Check command.Print same = let e : 99 ≡ 112 = ap first_byte same in absurd (omega (arith, e))
+one_command command.Print command.Run same = let e : 112 ≡ 114 = ap first_byte same in absurd (omega (arith, e))
+one_command command.Print command.Check same = let e : 112 ≡ 99 = ap first_byte same in absurd (omega (arith, e))
 one_command command.Print command.Print same = refl
 
 begins_command : Begins IsCommand []

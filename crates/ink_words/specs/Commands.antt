@@ -16,6 +16,7 @@ Word = List ℕ
 -- the word of a command
 abbrev pub command_word : Command → Word
 command_word command.Run = codes "run"
+command_word command.Check = codes "check"
 command_word command.Print = codes "print"
 
 -- whether a command has the option of a limit
@@ -90,6 +91,7 @@ asked command file limits = record { command = command; file = file; limits = li
 -- what an order asks for
 abbrev pub asked_by : Order → Asked
 asked_by (order.Run file limits) = asked command.Run file.now limits
+asked_by (order.Check file limits) = asked command.Check file.now limits
 asked_by (order.Print file limits) = asked command.Print file.now limits
 
 -- the words are this command

@@ -12,6 +12,8 @@ use ink_base::{Limit, Text};
 pub enum Command {
     /// The module of a file is run.
     Run,
+    /// The module of a file is judged.
+    Check,
     /// The module of a file is printed.
     Print,
 }
@@ -24,6 +26,8 @@ impl Command {
     {
         if word.is(b"run") {
             Some(Command::Run)
+        } else if word.is(b"check") {
+            Some(Command::Check)
         } else if word.is(b"print") {
             Some(Command::Print)
         } else {

@@ -11,6 +11,8 @@ use ink_base::{Limits, Text};
 pub enum Order<'a> {
     /// Runs the module that the file holds.
     Run { file: &'a Text, limits: Limits },
+    /// Judges the module that the file holds.
+    Check { file: &'a Text, limits: Limits },
     /// Prints the module that the file holds.
     Print { file: &'a Text, limits: Limits },
 }
@@ -61,6 +63,7 @@ fn order_of(command: Command, target: Target<'_>) -> Order<'_>
     let Target { file, limits } = target;
     match command {
         Command::Run => Order::Run { file, limits },
+        Command::Check => Order::Check { file, limits },
         Command::Print => Order::Print { file, limits },
     }
 }
