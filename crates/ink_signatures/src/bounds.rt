@@ -61,13 +61,7 @@ fn has_trait(room: &Room, owner: Owner, types: &Types, of: TypeId, of_trait: Tra
 }
 
 /// Whether a type has all these traits.
-pub(crate) fn meets(
-    room: &Room,
-    owner: Owner,
-    types: &Types,
-    of: TypeId,
-    bounds: &[TraitId],
-) -> bool {
+pub fn meets(room: &Room, owner: Owner, types: &Types, of: TypeId, bounds: &[TraitId]) -> bool {
     for bound in bounds {
         if !has_trait(room, owner, types, of, *bound) {
             return false;

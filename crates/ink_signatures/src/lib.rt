@@ -14,6 +14,7 @@ mod rules;
 mod signatures;
 mod written;
 
+pub use bounds::meets;
 pub use declared::signature_types;
 pub use own::{add_kinds, own_types};
 pub use room::{Owner, Room, Site, State};
