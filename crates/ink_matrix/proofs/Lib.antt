@@ -1,0 +1,4 @@
+pub mod Loops
+pub mod Skips
+pub mod Opens
+pub mod Searches

@@ -1,0 +1,4 @@
+pub mod Cover
+pub mod Rows
+pub mod Views
+pub mod Search
