@@ -1,0 +1,3 @@
+pub mod Walk
+pub mod States
+pub mod Listed
