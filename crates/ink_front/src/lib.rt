@@ -1,9 +1,9 @@
 //! The phases of judging a module that stand behind its reading, one behind the other.
 //!
-//! A phase is judged only where those before it hold, and refuses with the least that it finds broken. What is done with
-//! a module that none of them refuses is not known here.
+//! A phase is judged only where those before it hold, and refuses with the least that it finds broken. A module that none
+//! of them refuses is given with all that they found. What is done with it is not known here.
 #![tactic(auto)]
 
-mod judge;
+mod phases;
 
-pub use judge::judge_further;
+pub use phases::judge;

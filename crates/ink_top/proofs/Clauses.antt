@@ -7,12 +7,13 @@ use Rattle.ink_words.specs.declared.command.Command.{Command}
 use Rattle.ink_words.specs.declared.command.Command.TheVariants as command
 use Rattle.ink_words.specs.Commands.{Word, Asked, asked}
 use Rattle.ink_grammar.specs.Tree.{Tree}
+use Rattle.ink_names.specs.Later.{IsLater}
 use Rattle.ink_reading.specs.Reading as reading
 use Rattle.ink_print.specs.Layout.{print}
 use Rattle.ink_top.specs.Calls.{IsIdle, IsUnread, most_read, IsRefusedBy, CheckedSource, RanSource, PrintedSource, Came, Did, Performed, Tells}
 use Rattle.ink_top.specs.Causes.{IsFault}
 use Rattle.ink_top.specs.Devices.{Change, FilesState, SinkState, KeepsFiles, Gets, Cuts}
-use Rattle.ink_top.specs.Headline.{TopCall, IsUntouched, StandUnder, TakesSource, RunsSource, is_to_judge, IsRefused, RefusesModule, IsLaterCause, LeavesUnbuilt, AcceptsModule, WritesOutput, ReachesEnd, WritesPrint, RefusesWords}
+use Rattle.ink_top.specs.Headline.{TopCall, IsUntouched, StandUnder, TakesSource, RunsSource, IsRefused, RefusesModule, IsLaterRefused, JudgesModule, LeavesUnbuilt, AcceptsModule, WritesOutput, ReachesEnd, WritesPrint, RefusesWords}
 use Rattle.ink_top.specs.Runs.{Replays, ReplaysCut}
 use Rattle.ink_top.specs.Verdict.{IsAccepted, IsFurther, IsOnlyVerdict, Verdict}
 use Rattle.ink_round.specs.ReadsBack.{IsPrint}
@@ -106,16 +107,17 @@ one_refusal limits bytes refusal other refused by = elim by [
 check_refused : (limits : List ℕ) (cause : Cause) (bytes : List ℕ) (refusal : Refusal) → verdict.IsRefused limits bytes refusal
     → CheckedSource limits cause bytes → cause ≡ Refused refusal ⊎ IsFault cause
 check_refused limits Quiet bytes refusal refused checked = absurd checked
-check_refused limits Accepted bytes refusal refused checked =
-    absurd (accepted_or_refused checked.0 refusal (sym (checked.1.only (verdict.Refused refusal) refused)))
+check_refused limits Accepted bytes refusal refused checked = elim checked [
+  | inl it ↦ absurd (accepted_or_refused it.0 refusal (sym (it.1.only (verdict.Refused refusal) refused)))
+  | inr it ↦ absurd (refused_or_further refusal (it.only (verdict.Refused refusal) refused))
+]
 check_refused limits Written bytes refusal refused checked = absurd checked
 check_refused limits (Refused other) bytes refusal refused checked = inl (ap Refused (one_refusal limits bytes refusal other refused checked))
 check_refused limits (Usage number) bytes refusal refused checked = absurd checked
 check_refused limits ReadFault bytes refusal refused checked = absurd checked
 check_refused limits WriteFault bytes refusal refused checked = absurd checked
 check_refused limits OutOfMemory bytes refusal refused checked = inr (inr (inr refl))
-check_refused limits Unbuilt bytes refusal refused checked =
-    absurd (refused_or_further refusal (checked.only (verdict.Refused refusal) refused))
+check_refused limits Unbuilt bytes refusal refused checked = absurd checked
 
 run_refused : (limits : List ℕ) (cause : Cause) (bytes : List ℕ) (refusal : Refusal) (journal : List ℕ) (out : Change SinkState)
     → verdict.IsRefused limits bytes refusal → RanSource limits cause bytes journal out
@@ -188,76 +190,71 @@ refused_module call went asked bytes refusal takes refused =
 not_first : {A : Type 0} (limits bytes : List ℕ) (program : Program) → IsFurther limits bytes → IsOnlyVerdict limits bytes (verdict.Accepted program) → A
 not_first limits bytes program further it = absurd (accepted_or_further program (sym (it.only verdict.Further further)))
 
-refused_further : (limits bytes : List ℕ) (refusal : Refusal) → IsFurther limits bytes → IsRefusedBy limits bytes refusal
-    → IsLaterCause (Refused refusal)
+-- how the judging of such a module ends: by a refusal, by this cause, or by a fault
+abbrev EndsJudging : Cause → Cause → Type 0
+EndsJudging held cause = IsLaterRefused cause ⊎ (cause ≡ held) ⊎ IsFault cause
+
+refused_further : (limits bytes : List ℕ) (refusal : Refusal) → IsFurther limits bytes → IsRefusedBy limits bytes refusal → IsLater refusal
 refused_further limits bytes refusal further by = elim by [
   | inl it ↦ absurd (refused_or_further refusal (sym (it.only verdict.Further further)))
-  | inr it ↦ inl (refusal, refl, it.1)
+  | inr it ↦ it.1
 ]
 
 check_further : (limits : List ℕ) (cause : Cause) (bytes : List ℕ) → IsFurther limits bytes → CheckedSource limits cause bytes
-    → IsLaterCause cause ⊎ IsFault cause
+    → EndsJudging Accepted cause
 check_further limits Quiet bytes further checked = absurd checked
-check_further limits Accepted bytes further checked = not_first limits bytes checked.0 further checked.1
+check_further limits Accepted bytes further checked = inr (inl refl)
 check_further limits Written bytes further checked = absurd checked
-check_further limits (Refused other) bytes further checked = inl (refused_further limits bytes other further checked)
+check_further limits (Refused other) bytes further checked = inl (other, refl, refused_further limits bytes other further checked)
 check_further limits (Usage number) bytes further checked = absurd checked
 check_further limits ReadFault bytes further checked = absurd checked
 check_further limits WriteFault bytes further checked = absurd checked
-check_further limits OutOfMemory bytes further checked = inr (inr (inr refl))
-check_further limits Unbuilt bytes further checked = inl (inr refl)
+check_further limits OutOfMemory bytes further checked = inr (inr (inr (inr refl)))
+check_further limits Unbuilt bytes further checked = absurd checked
 
 run_further : (limits : List ℕ) (cause : Cause) (bytes : List ℕ) (journal : List ℕ) (out : Change SinkState)
-    → IsFurther limits bytes → RanSource limits cause bytes journal out → IsIdle journal out × (IsLaterCause cause ⊎ IsFault cause)
+    → IsFurther limits bytes → RanSource limits cause bytes journal out → IsIdle journal out × EndsJudging Unbuilt cause
 run_further limits Quiet bytes journal out further ran = not_first limits bytes ran.0 further ran.1
 run_further limits Accepted bytes journal out further ran = absurd ran
 run_further limits Written bytes journal out further ran = absurd ran
-run_further limits (Refused other) bytes journal out further ran = (ran.1, inl (refused_further limits bytes other further ran.0))
+run_further limits (Refused other) bytes journal out further ran = (ran.1, inl (other, refl, refused_further limits bytes other further ran.0))
 run_further limits (Usage number) bytes journal out further ran = absurd ran
 run_further limits ReadFault bytes journal out further ran = absurd ran
 run_further limits WriteFault bytes journal out further ran = not_first limits bytes ran.0 further ran.1
 run_further limits OutOfMemory bytes journal out further ran = elim ran [
-  | inl it ↦ (it, inr (inr (inr refl)))
+  | inl it ↦ (it, inr (inr (inr (inr refl))))
   | inr it ↦ not_first limits bytes it.0 further it.1
 ]
-run_further limits Unbuilt bytes journal out further ran = (ran.1, inl (inr refl))
-
-print_or_judge : false ≡ true → ⊥
-print_or_judge e = cc
-
-came_further : (command : Command) (limits : List ℕ) (cause : Cause) (bytes : List ℕ) (journal : List ℕ) (out : Change SinkState)
-    → is_to_judge command ≡ true → IsFurther limits bytes → Came command limits cause bytes journal out
-    → IsIdle journal out × (IsLaterCause cause ⊎ IsFault cause)
-came_further command.Run limits cause bytes journal out judged further came = run_further limits cause bytes journal out further came
-came_further command.Check limits cause bytes journal out judged further came =
-    (came.1, check_further limits cause bytes further came.0)
-came_further command.Print limits cause bytes journal out judged further came = absurd (print_or_judge judged)
+run_further limits Unbuilt bytes journal out further ran = (ran.1, inr (inl refl))
 
 -- a cause of such a module stays, or a fault takes its place
-told_further : (cause told : Cause) (file : Word) (err : Change SinkState) → Tells cause told file err → IsLaterCause cause ⊎ IsFault cause
-    → IsLaterCause told ⊎ IsFault told
-told_further cause told file err tells found = elim found [
-  | inl later ↦ elim later [
-    | inl it ↦ elim (told_or_fault cause told (Refused it.0) file err tells (inl it.1)) [
-      | inl same ↦ inl (inl (it.0, same, it.2))
-      | inr fault ↦ inr fault
-    ]
-    | inr it ↦ elim (told_or_fault cause told Unbuilt file err tells (inl it)) [
-      | inl same ↦ inl (inr same)
-      | inr fault ↦ inr fault
-    ]
+told_further : (cause told held : Cause) (file : Word) (err : Change SinkState) → Tells cause told file err → EndsJudging held cause
+    → EndsJudging held told
+told_further cause told held file err tells found = elim found [
+  | inl later ↦ elim (told_or_fault cause told (Refused later.0) file err tells (inl later.1)) [
+    | inl same ↦ inl (later.0, same, later.2)
+    | inr fault ↦ inr (inr fault)
   ]
-  | inr fault ↦ inr (told_fault cause told file err tells fault)
+  | inr other ↦ inr (told_or_fault cause told held file err tells other)
 ]
 
-pub unbuilt_module : (call : TopCall) → Went call → LeavesUnbuilt call
-unbuilt_module call went asked bytes takes judged further =
-    let found : IsIdle call.journal call.out × (IsLaterCause went.found ⊎ IsFault went.found) =
-    elim (performed_source call went asked bytes takes) [
-      | inl came ↦ came_further asked.command asked.limits went.found bytes call.journal call.out judged further came
-      | inr it ↦ (it.0, inr it.1)
+pub judged_module : (call : TopCall) → Went call → JudgesModule call
+judged_module call went limits bytes source further =
+    let found : IsIdle call.journal call.out × EndsJudging Accepted went.found =
+    elim (performed_source call went (asked command.Check source.0 limits) bytes source.1) [
+      | inl came ↦ (came.1, check_further limits went.found bytes further came.0)
+      | inr it ↦ (it.0, inr (inr it.1))
     ] in
-    (untouched call went.kept found.0, told_further went.found call.cause went.file call.err went.tells found.1)
+    (untouched call went.kept found.0, told_further went.found call.cause Accepted went.file call.err went.tells found.1)
+
+pub unbuilt_module : (call : TopCall) → Went call → LeavesUnbuilt call
+unbuilt_module call went limits bytes source further =
+    let found : IsIdle call.journal call.out × EndsJudging Unbuilt went.found =
+    elim (performed_source call went (asked command.Run source.0 limits) bytes source.1) [
+      | inl came ↦ run_further limits went.found bytes call.journal call.out further came
+      | inr it ↦ (it.0, inr (inr it.1))
+    ] in
+    (untouched call went.kept found.0, told_further went.found call.cause Unbuilt went.file call.err went.tells found.1)
 
 -- an accepted source that is checked
 
@@ -274,8 +271,7 @@ check_accepted limits (Usage number) bytes program accepted checked = absurd che
 check_accepted limits ReadFault bytes program accepted checked = absurd checked
 check_accepted limits WriteFault bytes program accepted checked = absurd checked
 check_accepted limits OutOfMemory bytes program accepted checked = inr (inr (inr refl))
-check_accepted limits Unbuilt bytes program accepted checked =
-    absurd (accepted_or_further program (checked.only (verdict.Accepted program) accepted))
+check_accepted limits Unbuilt bytes program accepted checked = absurd checked
 
 pub accepts_module : (call : TopCall) → Went call → AcceptsModule call
 accepts_module call went limits bytes program source accepted =

@@ -4,10 +4,10 @@ use Rattle.ink_base.specs.declared.refusal.Refusal.{Refusal}
 use Rattle.ink_words.specs.declared.command.Command.{Command}
 use Rattle.ink_words.specs.declared.command.Command.TheVariants as command
 use Rattle.ink_words.specs.Commands.{Word, Asked, IsOrder}
-use Rattle.ink_top.specs.Calls.{IsIdle, IsRefusedBy, CheckedSource, RanSource, PrintedSource, Came, TellsMade, TellsFixed, Tells}
+use Rattle.ink_top.specs.Calls.{IsIdle, IsRefusedBy, IsHeld, CheckedSource, RanSource, PrintedSource, Came, TellsMade, TellsFixed, Tells}
 use Rattle.ink_top.specs.Causes.{cause_text}
 use Rattle.ink_top.specs.Devices.{Change, SinkState, HasFailed, Gets, Cuts}
-use Rattle.ink_top.specs.Headline.{TopCall, IsUntouched, HasSource, MayRefuse, Means, MeansCause, ShowsFaults, IsTextOf, TellsPart, TellsCause}
+use Rattle.ink_top.specs.Headline.{TopCall, IsUntouched, HasSource, MayRefuse, MayAccept, Means, MeansCause, ShowsFaults, IsTextOf, TellsPart, TellsCause}
 use Rattle.ink_top.specs.declared.cause.Cause.{Cause}
 use Rattle.ink_top.specs.declared.cause.Cause.TheVariants.{Quiet, Accepted, Written, Refused, Usage, ReadFault, WriteFault, OutOfMemory, Unbuilt}
 use Rattle.ink_top.proofs.Clauses.{Went, untouched}
@@ -21,10 +21,13 @@ may_refuse limits bytes refusal refused = elim refused [ inl it ↦ inl it.is | 
 check_refuses : (limits bytes : List ℕ) (refusal : Refusal) → IsRefusedBy limits bytes refusal → MayRefuse command.Check limits bytes refusal
 check_refuses limits bytes refusal refused = elim refused [ inl it ↦ inl it.is | inr it ↦ inr (refl, it.0.is, it.1) ]
 
+may_accept : (limits bytes : List ℕ) → IsHeld limits bytes → MayAccept limits bytes
+may_accept limits bytes held = elim held [ inl it ↦ inl (it.0, it.1.is) | inr it ↦ inr it.is ]
+
 check_means : (call : TopCall) (limits bytes : List ℕ) (cause : Cause) → IsUntouched call
     → HasSource call command.Check limits bytes → CheckedSource limits cause bytes → Means cause call
 check_means call limits bytes Quiet none has checked = absurd checked
-check_means call limits bytes Accepted none has checked = (none, (limits, bytes, checked.0, has, checked.1.is))
+check_means call limits bytes Accepted none has checked = (none, (limits, bytes, has, may_accept limits bytes checked))
 check_means call limits bytes Written none has checked = absurd checked
 check_means call limits bytes (Refused refusal) none has checked =
     (none, (command.Check, limits, bytes, has, check_refuses limits bytes refusal checked))
@@ -32,7 +35,7 @@ check_means call limits bytes (Usage number) none has checked = absurd checked
 check_means call limits bytes ReadFault none has checked = absurd checked
 check_means call limits bytes WriteFault none has checked = absurd checked
 check_means call limits bytes OutOfMemory none has checked = inl none
-check_means call limits bytes Unbuilt none has checked = (none, (command.Check, limits, bytes, has, refl, checked.is))
+check_means call limits bytes Unbuilt none has checked = absurd checked
 
 run_means : (call : TopCall) (limits bytes : List ℕ) (cause : Cause) → (IsIdle call.journal call.out → IsUntouched call)
     → HasSource call command.Run limits bytes → RanSource limits cause bytes call.journal call.out → Means cause call
@@ -65,7 +68,7 @@ run_means call limits bytes OutOfMemory idle has ran = elim ran [
     replays = it.2;
   })
 ]
-run_means call limits bytes Unbuilt idle has ran = (idle ran.1, (command.Run, limits, bytes, has, refl, ran.0.is))
+run_means call limits bytes Unbuilt idle has ran = (idle ran.1, (limits, bytes, has, ran.0.is))
 
 nothing_written : (call : TopCall) → (IsIdle call.journal call.out → IsUntouched call) → call.out.after ≡ call.out.before → call.journal ≡ []
     → IsUntouched call

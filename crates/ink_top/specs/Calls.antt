@@ -34,7 +34,20 @@ pub record IsIdle (journal : List ℕ) (out : Change SinkState) : Type 0 where
   pub no-event : journal ≡ []
   pub output : out.after ≡ out.before
 
--- what is left of a module that the phases behind the reading judge: a refusal of theirs, or more than what is built
+-- what became of a module that is to be checked and that the phases behind the reading judge: a refusal of theirs, or it
+-- is accepted
+abbrev pub IsJudged : Cause → Type 0
+IsJudged Quiet = ⊥
+IsJudged Accepted = Unit {0}
+IsJudged Written = ⊥
+IsJudged (Refused refusal) = IsLater refusal
+IsJudged (Usage number) = ⊥
+IsJudged ReadFault = ⊥
+IsJudged WriteFault = ⊥
+IsJudged OutOfMemory = Unit {0}
+IsJudged Unbuilt = ⊥
+
+-- what is left of one that is to run: a refusal of theirs, or more than what is built
 abbrev pub IsLeft : Cause → Type 0
 IsLeft Quiet = ⊥
 IsLeft Accepted = ⊥
@@ -51,17 +64,22 @@ abbrev pub IsRefusedBy : List ℕ → List ℕ → Refusal → Type 0
 IsRefusedBy limits bytes refusal =
     IsOnlyVerdict limits bytes (verdict.Refused refusal) ⊎ (IsOnlyVerdict limits bytes verdict.Further × IsLater refusal)
 
+-- a source is accepted: it is of the first form, or the phases behind the reading judge it, and none refuses it
+abbrev pub IsHeld : List ℕ → List ℕ → Type 0
+IsHeld limits bytes =
+    ((program : Program) × IsOnlyVerdict limits bytes (verdict.Accepted program)) ⊎ IsOnlyVerdict limits bytes verdict.Further
+
 -- What came of a source that is to be checked, by the cause.
 abbrev pub CheckedSource : List ℕ → Cause → List ℕ → Type 0
 CheckedSource limits Quiet bytes = ⊥
-CheckedSource limits Accepted bytes = (program : Program) × IsOnlyVerdict limits bytes (verdict.Accepted program)
+CheckedSource limits Accepted bytes = IsHeld limits bytes
 CheckedSource limits Written bytes = ⊥
 CheckedSource limits (Refused refusal) bytes = IsRefusedBy limits bytes refusal
 CheckedSource limits (Usage number) bytes = ⊥
 CheckedSource limits ReadFault bytes = ⊥
 CheckedSource limits WriteFault bytes = ⊥
 CheckedSource limits OutOfMemory bytes = Unit {0}
-CheckedSource limits Unbuilt bytes = IsOnlyVerdict limits bytes verdict.Further
+CheckedSource limits Unbuilt bytes = ⊥
 
 -- What came of a source that is to run, by the cause.
 abbrev pub RanSource : List ℕ → Cause → List ℕ → List ℕ → Change SinkState → Type 0

@@ -74,30 +74,35 @@ RefusesModule call = (asked : Asked) (bytes : List ℕ) (refusal : Refusal)
     → TakesSource call asked bytes → IsRefused asked.command asked.limits bytes refusal
     → IsUntouched call × (call.cause ≡ Refused refusal ⊎ IsFault call.cause)
 
--- a phase behind the reading refuses it, or it is more than what is built so far
-abbrev pub IsLaterCause : Cause → Type 0
-IsLaterCause cause = ((refusal : Refusal) × (cause ≡ Refused refusal) × IsLater refusal) ⊎ (cause ≡ Unbuilt)
+-- a phase behind the reading refuses it
+abbrev pub IsLaterRefused : Cause → Type 0
+IsLaterRefused cause = (refusal : Refusal) × (cause ≡ Refused refusal) × IsLater refusal
 
--- A module that is read, and is judged by the phases behind: nothing was done, and the cause is a refusal of theirs or
--- says that it is more than what is built, unless a device failed or memory ran out.
+-- A module that is to be checked, and that the phases behind the reading judge: nothing was done, and the cause is a
+-- refusal of theirs or says that it is accepted, unless a device failed or memory ran out.
+abbrev pub JudgesModule : TopCall → Type 0
+JudgesModule call = (limits bytes : List ℕ) → ChecksSource call limits bytes → IsFurther limits bytes
+    → IsUntouched call × (IsLaterRefused call.cause ⊎ (call.cause ≡ Accepted) ⊎ IsFault call.cause)
+
+-- Such a module that is to run: nothing was done, and the cause is a refusal of theirs or says that it is more than what
+-- is built, unless a device failed or memory ran out.
 abbrev pub LeavesUnbuilt : TopCall → Type 0
-LeavesUnbuilt call = (asked : Asked) (bytes : List ℕ)
-    → TakesSource call asked bytes → is_to_judge asked.command ≡ true → IsFurther asked.limits bytes
-    → IsUntouched call × (IsLaterCause call.cause ⊎ IsFault call.cause)
+LeavesUnbuilt call = (limits bytes : List ℕ) → RunsSource call limits bytes → IsFurther limits bytes
+    → IsUntouched call × (IsLaterRefused call.cause ⊎ (call.cause ≡ Unbuilt) ⊎ IsFault call.cause)
 
--- An accepted module that is to be checked: nothing was done, and the cause says so, unless a device failed or memory
--- ran out.
+-- A module of the first form that is to be checked: nothing was done, and the cause says that it is accepted, unless a
+-- device failed or memory ran out.
 abbrev pub AcceptsModule : TopCall → Type 0
 AcceptsModule call = (limits bytes : List ℕ) (program : Program) → ChecksSource call limits bytes → IsAccepted limits bytes program
     → IsUntouched call × (call.cause ≡ Accepted ⊎ IsFault call.cause)
 
--- The output of an accepted module: that of the journal's replay, whole where the sink didn't fail, and else cut
+-- The output of a module of the first form: that of the journal's replay, whole where the sink didn't fail, and else cut
 -- within the last print.
 abbrev pub WritesOutput : TopCall → Type 0
 WritesOutput call = (limits bytes : List ℕ) (program : Program) → RunsSource call limits bytes → IsAccepted limits bytes program
     → Replays program call.journal call.out ⊎ ReplaysCut program call.journal call.out
 
--- The end of an accepted module, unless a device failed or memory ran out: nothing more can happen.
+-- The end of such a module, unless a device failed or memory ran out: nothing more can happen.
 abbrev pub ReachesEnd : TopCall → Type 0
 ReachesEnd call = (limits bytes : List ℕ) (program : Program) → RunsSource call limits bytes → IsAccepted limits bytes program
     → call.cause ≡ Quiet ⊎ IsFault call.cause
@@ -149,11 +154,15 @@ abbrev pub MayRefuse : Command → List ℕ → List ℕ → Refusal → Type 0
 MayRefuse command limits bytes refusal =
     IsRefused command limits bytes refusal ⊎ ((is_to_judge command ≡ true) × IsFurther limits bytes × IsLater refusal)
 
+-- what a check may accept: a module of the first form, or one that the phases behind the reading judge
+abbrev pub MayAccept : List ℕ → List ℕ → Type 0
+MayAccept limits bytes = ((program : Program) × IsAccepted limits bytes program) ⊎ IsFurther limits bytes
+
 -- The table of causes: what each one says of a call.
 abbrev pub Means : Cause → TopCall → Type 0
 Means Quiet call = (ran : RunsModule call) × IsQuiet ran.replays.world
-Means Accepted call = IsUntouched call × ((limits : List ℕ) × (bytes : List ℕ) × (program : Program)
-    × HasSource call command.Check limits bytes × IsAccepted limits bytes program)
+Means Accepted call = IsUntouched call × ((limits : List ℕ) × (bytes : List ℕ) × HasSource call command.Check limits bytes
+    × MayAccept limits bytes)
 Means Written call = (limits : List ℕ) × (bytes : List ℕ) × (text : List ℕ) × HasSource call command.Print limits bytes
     × IsPrint limits bytes text × (call.journal ≡ []) × Gets call.out text
 Means (Refused refusal) call = IsUntouched call × ((command : Command) × (limits : List ℕ) × (bytes : List ℕ)
@@ -164,8 +173,8 @@ Means ReadFault call = IsUntouched call × ((asked : Asked) × IsOrder asked cal
 Means WriteFault call = CutsOutput call ⊎ (IsUntouched call × HasFailed call.err)
 -- memory may run out at any time: of a print nothing was written then
 Means OutOfMemory call = IsUntouched call ⊎ RunsModule call
-Means Unbuilt call = IsUntouched call × ((command : Command) × (limits : List ℕ) × (bytes : List ℕ)
-    × HasSource call command limits bytes × (is_to_judge command ≡ true) × IsFurther limits bytes)
+Means Unbuilt call = IsUntouched call × ((limits : List ℕ) × (bytes : List ℕ) × HasSource call command.Run limits bytes
+    × IsFurther limits bytes)
 
 -- the cause means what the table says
 abbrev pub MeansCause : TopCall → Type 0
@@ -210,6 +219,7 @@ TellsCause call = (text : List ℕ) × IsTextOf call call.cause text × (Gets ca
 -- What each call promises, for all words, all bytes and all ways in which devices fail.
 pub record IsPromised (call : TopCall) : Type 0 where
   pub refused_module : RefusesModule call
+  pub judged : JudgesModule call
   pub unbuilt : LeavesUnbuilt call
   pub accepted : AcceptsModule call
   pub output : WritesOutput call

@@ -3,7 +3,7 @@ ghost use Rattle.std.specs.Prelude.{◌≡◌, ◌<◌, ◌≤◌, [], IfOk, OnO
 ghost use Rattle.ink_devices.specs.Outside.{greatest_count, Reads};
 ghost use Rattle.ink_words.specs.declared.command.Command.TheVariants.{Run, Check, Print};
 ghost use Rattle.ink_words.specs.Commands.{asked, asked_by};
-ghost use Rattle.ink_top.specs.Calls.{most_read, IsUnread, IsLeft, CheckedSource, Did, Performed, PrintedSource, RanSource, TriesLine, TellsMade, Tells};
+ghost use Rattle.ink_top.specs.Calls.{most_read, IsUnread, IsJudged, IsLeft, CheckedSource, Did, Performed, PrintedSource, RanSource, TriesLine, TellsMade, Tells};
 ghost use Rattle.ink_top.specs.Causes.{status_of};
 ghost use Rattle.ink_top.specs.Devices.{KeepsFiles, SinkState, files_of, sink_of};
 ghost use Rattle.ink_top.specs.Headline.{IsPromised};
@@ -13,31 +13,43 @@ use crate::run::{RunFault, run};
 use crate::verdict::{ModuleKind, judge};
 use ink_base::{Journal, JudgeFault, Limit, Limits, Text};
 use ink_devices::{Failed, FileFault, Files, Gate, Sink, write_whole};
-use ink_front::judge_further;
 use ink_grammar::Module;
 use ink_round::{print_reads_back, print_source};
 use ink_words::{Order, read_words};
 use std::alloc::Global;
 
-/// Judges a module by the phases behind its reading, and leaves it there: what they don't refuse isn't built yet.
+/// Judges a module by the phases behind its reading, and accepts it where none refuses it.
+fn accept(alloc: Global, source: &[u8], parsed: &Module) -> Cause
+    ensures { IsJudged result }
+{
+    match ink_front::judge(alloc, source, parsed) {
+        Err(JudgeFault::Refused(refusal)) => Cause::Refused(refusal),
+        Err(JudgeFault::OutOfMemory) => Cause::OutOfMemory,
+        Ok(_) => Cause::Accepted,
+    }
+}
+
+/// Judges a module by the phases behind its reading, and leaves it there: that one runs which none refuses isn't built
+/// yet.
 fn leave(alloc: Global, source: &[u8], parsed: &Module) -> Cause
     ensures { IsLeft result }
 {
-    match judge_further(alloc, source, parsed) {
+    match ink_front::judge(alloc, source, parsed) {
         Err(JudgeFault::Refused(refusal)) => Cause::Refused(refusal),
         Err(JudgeFault::OutOfMemory) => Cause::OutOfMemory,
-        Ok(()) => Cause::Unbuilt,
+        Ok(_) => Cause::Unbuilt,
     }
 }
 
 /// Judges a source.
+#[tactic(auto, using(crate::proofs::Sources::first_source, crate::proofs::Sources::judged_source))]
 fn check_source(alloc: Global, source: &[u8], limits: &Limits) -> Cause
     ensures { CheckedSource limits.now result source.now }
 {
     match judge(alloc, source, limits) {
         Err(JudgeFault::Refused(refusal)) => Cause::Refused(refusal),
         Err(JudgeFault::OutOfMemory) => Cause::OutOfMemory,
-        Ok(ModuleKind::Other(parsed)) => leave(alloc, source, &parsed),
+        Ok(ModuleKind::Other(parsed)) => accept(alloc, source, &parsed),
         Ok(ModuleKind::First(_)) => Cause::Accepted,
     }
 }
@@ -319,10 +331,10 @@ pub struct Ended<K> {
 /// Does what the words ask for: `run FILE`, `check FILE` or `print FILE`, with their options. The number of workers
 /// changes nothing yet.
 ///
-/// `run` judges the source and, where it is accepted, runs it; its output goes to `out`. `check` judges it and does
-/// nothing else. `print` writes the canonical print of the source to `out`. Why the call ended is told on `err` in one
-/// line, unless a run came to its end, a module was accepted or a print was written. No worker enters the gate before
-/// there are several.
+/// `run` judges the source and runs a module of the first form; its output goes to `out`. Another module that is accepted
+/// doesn't run yet. `check` judges the source and does nothing else. `print` writes the canonical print of the source to
+/// `out`. Why the call ended is told on `err` in one line, unless a run came to its end, a module was accepted or a print
+/// was written. No worker enters the gate before there are several.
 pub fn inko_main<F: Files, K: Sink + Send, E: Sink, G: Gate + Sync>(
     alloc: Global,
     words: &[Text],

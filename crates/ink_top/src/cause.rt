@@ -26,8 +26,8 @@ pub enum Cause {
     WriteFault,
     /// There was no memory. Of a print nothing was written; a run wrote all that its journal says.
     OutOfMemory,
-    /// The module is more than what is built so far, and nothing was done: the rules that are built hold. It goes once
-    /// all modules run.
+    /// The module was to run, and is more than what runs so far: it holds all rules, and nothing was done. It goes once all
+    /// modules run.
     Unbuilt,
 }
 
