@@ -1,0 +1,6 @@
+pub mod Commuting
+pub mod Determined
+pub mod Numbering
+pub mod Ordered
+pub mod Sharing
+pub mod Stepping

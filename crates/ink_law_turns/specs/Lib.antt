@@ -1,0 +1,4 @@
+pub mod Ahead
+pub mod Machines
+pub mod Order
+pub mod Turns
