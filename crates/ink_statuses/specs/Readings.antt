@@ -1,0 +1,39 @@
+-- What is asked of statuses.
+use Rattle.std.specs.Prelude.{ℕ, Bool, true, false, Option, None, Some, List}
+use Rattle.ink_base.specs.Numbered.{set_numbered}
+use Rattle.ink_worlds.specs.State.{woken_from_get}
+use Rattle.ink_worlds.specs.declared.status.Status.{Status}
+use Rattle.ink_worlds.specs.declared.status.Status.TheVariants.{Ready, Out, Idle, Held, Stopped}
+
+abbrev pub is_ready : Status → Bool
+is_ready Ready = true
+is_ready (Out seat ran) = false
+is_ready Idle = false
+is_ready (Held future) = false
+is_ready Stopped = false
+
+abbrev pub is_out : Status → Bool
+is_out Ready = false
+is_out (Out seat ran) = true
+is_out Idle = false
+is_out (Held future) = false
+is_out Stopped = false
+
+abbrev pub is_held : Status → Bool
+is_held Ready = false
+is_held (Out seat ran) = false
+is_held Idle = false
+is_held (Held future) = true
+is_held Stopped = false
+
+abbrev pub is_stopped : Status → Bool
+is_stopped Ready = false
+is_stopped (Out seat ran) = false
+is_stopped Idle = false
+is_stopped (Held future) = false
+is_stopped Stopped = true
+
+-- the statuses after a future was set or broken, of which one process may have heard
+abbrev pub woken_for : ℕ → Option Status → List Status → ℕ → List Status
+woken_for future None statuses process = statuses
+woken_for future (Some status) statuses process = set_numbered statuses process (woken_from_get future status)

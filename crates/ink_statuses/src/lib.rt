@@ -1,0 +1,8 @@
+//! How each process of a world stands, which is the first that is ready, and who is woken.
+//!
+//! Why a process stands so is not known here.
+#![tactic(auto)]
+
+mod statuses;
+
+pub use statuses::Statuses;
