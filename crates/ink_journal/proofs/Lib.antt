@@ -1,0 +1,5 @@
+mod Ends
+mod Front
+mod Entries
+mod Runs
+mod Words
