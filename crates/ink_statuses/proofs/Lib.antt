@@ -1,1 +1,3 @@
 pub mod Woken
+mod Shown
+mod Noted

@@ -1,7 +1,7 @@
 -- Statuses of which the first so many have heard that a future was set or broken.
-use Rattle.std.proofs.Common.{◌≡◌, ℕ, zero, suc, ◌+◌, ◌<◌, Option, None, Some, List, [], ◌∷◌, length, map, set, refl, ap, sym, ◌∙◌, arith}
+use Rattle.std.proofs.Common.{◌≡◌, ℕ, zero, suc, ◌+◌, Option, None, Some, List, [], ◌∷◌, length, map, set, refl, ap, sym, ◌∙◌, arith}
 use Rattle.std.specs.List.{slice_get}
-use Rattle.ink_base.specs.Numbered.{numbered, set_numbered}
+use Rattle.ink_base.specs.Numbered.{numbered}
 use Rattle.ink_law_turns.proofs.Numbering.{numbered-suc, set_numbered-suc}
 use Rattle.ink_statuses.specs.Readings.{woken_for}
 use Rattle.ink_worlds.specs.State.{woken_from_get}

@@ -1,6 +1,8 @@
 -- What is asked of statuses.
-use Rattle.std.specs.Prelude.{ℕ, Bool, true, false, Option, None, Some, List}
+use Rattle.std.specs.Prelude.{◌≡◌, ℕ, Bool, true, false, Option, None, Some, List}
+use Rattle.std.specs.List.{slice_get}
 use Rattle.ink_base.specs.Numbered.{set_numbered}
+use Rattle.ink_marks.specs.Marks.{is_marked}
 use Rattle.ink_worlds.specs.State.{woken_from_get}
 use Rattle.ink_worlds.specs.declared.status.Status.{Status}
 use Rattle.ink_worlds.specs.declared.status.Status.TheVariants.{Ready, Out, Idle, Held, Stopped}
@@ -37,3 +39,11 @@ is_stopped Stopped = true
 abbrev pub woken_for : ℕ → Option Status → List Status → ℕ → List Status
 woken_for future None statuses process = statuses
 woken_for future (Some status) statuses process = set_numbered statuses process (woken_from_get future status)
+
+abbrev pub passes_at : (Status → Bool) → Option Status → Bool
+passes_at passes None = false
+passes_at passes (Some status) = passes status
+
+-- the places of those that pass are marked, and no others
+abbrev pub Shows : (Status → Bool) → List ℕ → List Status → Type 0
+Shows passes marks statuses = (n : ℕ) → is_marked marks n ≡ passes_at passes (slice_get statuses n)

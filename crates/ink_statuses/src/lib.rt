@@ -4,5 +4,6 @@
 #![tactic(auto)]
 
 mod statuses;
+mod waiters;
 
 pub use statuses::Statuses;

@@ -1,22 +1,10 @@
-use Rattle.std.proofs.Common.{◌≡◌, ℕ, ◌+◌, length, List, ap, sym, ◌∙◌, arith}
-use Rattle.ink_base.specs.Numbered.{numbered}
-use Rattle.ink_statuses.proofs.Woken.{woken_up_to, woken_more, woken_all}
-use Rattle.ink_statuses.specs.Readings.{woken_for}
+use Rattle.std.proofs.Common.{ap, ◌∙◌}
+use Rattle.ink_numbered.specs.Roomy.{Roomy}
+use Rattle.ink_statuses.proofs.Noted.{noted_cleared}
 use Rattle.ink_worlds.specs.declared.status.Status.{Status}
 use Rattle.ink_statuses.proofs.statuses.Statuses.wake_held.Goals as goal
 
-pub loop-index-preserved : goal.loop-index-preserved
-loop-index-preserved c = record {
-  woken = c.wake_one.ensures.items
-      ∙ (ap (λ (zs : List Status). woken_for c.args.future (numbered zs (c.loop-index.index + 1)) zs (c.loop-index.index + 1)) c.loop-index.invariant.woken
-      ∙ woken_more c.args.future c.loop-index.index c.args.self.now.items);
-  spare = c.wake_one.ensures.spare ∙ c.loop-index.invariant.spare;
-}
-
-pub returns-clause-items : goal.returns-clause-items
-returns-clause-items c =
-    let view = c.self.view_is in
-    let same : length c.self.inside.list.items ≡ length c.args.self.now.items = cc in
-    let all : c.loop-index.index ≡ length c.args.self.now.items = omega (arith, c.loop-index-test.false, c.loop-index.auto.index-end, c.len-index-end.ensures, same) in
-    c.loop-index.invariant.woken
-    ∙ (ap (λ (count : ℕ). woken_up_to c.args.future count c.args.self.now.items) all ∙ woken_all c.args.future c.args.self.now.items)
+pub invariant_of-self : goal.invariant_of-self
+invariant_of-self c =
+    let same = ap (λ (r : Roomy Status). r.items) c.self.view_is in
+    (c.self.invariant.0, c.self.invariant.1, c.self.invariant.2, noted_cleared c.self.inside.waiters.table.items c.clear.new.self.table.items c.self.inside.waiters.beyond c.clear.new.self.beyond c.args.self.now.items c.self.inside.list.items c.args.future c.self.invariant.3 (same ∙ c.wake_noted.ensures.items) (λ other p differ. c.clear.ensures other p differ))

@@ -1,6 +1,6 @@
 use Rattle.std.proofs.Common.{◌≡◌}
 use Rattle.ink_statuses.proofs.Woken.{woken_up_to}
-use Rattle.ink_statuses.proofs.statuses.Statuses.wake_held.Given as goal
+use Rattle.ink_statuses.proofs.statuses.Statuses.wake_all.Given as goal
 
 -- the first so many have heard
 abbrev pub invariant-loop-index : goal.invariant-loop-index
