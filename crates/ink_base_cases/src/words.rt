@@ -38,6 +38,7 @@ fn told_order(sheet: &mut Sheet, order: Order<'_>) {
     match order {
         Order::Run { file, limits } => target(sheet, ": runs ", file, &limits),
         Order::Check { file, limits } => target(sheet, ": checks ", file, &limits),
+        Order::List { file, limits } => target(sheet, ": lists ", file, &limits),
         Order::Print { file, limits } => target(sheet, ": prints ", file, &limits),
     }
 }

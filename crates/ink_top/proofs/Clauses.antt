@@ -10,7 +10,7 @@ use Rattle.ink_grammar.specs.Tree.{Tree}
 use Rattle.ink_names.specs.Later.{IsLater}
 use Rattle.ink_reading.specs.Reading as reading
 use Rattle.ink_print.specs.Layout.{print}
-use Rattle.ink_top.specs.Calls.{IsIdle, IsUnread, most_read, IsRefusedBy, CheckedSource, RanSource, PrintedSource, Came, Did, Performed, Tells}
+use Rattle.ink_top.specs.Calls.{IsIdle, IsUnread, most_read, IsRefusedBy, IsHeld, MayBeRefusedBy, CheckedSource, RanSource, ListedSource, PrintedSource, Came, Did, Performed, Tells}
 use Rattle.ink_top.specs.Causes.{IsFault}
 use Rattle.ink_top.specs.Devices.{Change, FilesState, SinkState, KeepsFiles, Gets, Cuts}
 use Rattle.ink_top.specs.Headline.{TopCall, IsUntouched, StandUnder, TakesSource, RunsSource, IsRefused, RefusesModule, IsLaterRefused, JudgesModule, LeavesUnbuilt, AcceptsModule, WritesOutput, ReachesEnd, WritesPrint, RefusesWords}
@@ -166,6 +166,37 @@ print_refused limits OutOfMemory bytes refusal journal out refused printed none 
     (idle journal out none printed, inr (inr (inr refl)))
 print_refused limits Unbuilt bytes refusal journal out refused printed none = absurd printed
 
+held_or_refused : (limits bytes : List ℕ) (refusal : Refusal) → verdict.IsRefused limits bytes refusal → IsHeld limits bytes → ⊥
+held_or_refused limits bytes refusal refused held = elim held [
+  | inl it ↦ accepted_or_refused it.0 refusal (sym (it.1.only (verdict.Refused refusal) refused))
+  | inr it ↦ refused_or_further refusal (it.only (verdict.Refused refusal) refused)
+]
+
+one_listed : (limits bytes : List ℕ) (refusal other : Refusal) → verdict.IsRefused limits bytes refusal → MayBeRefusedBy limits bytes other
+    → other ≡ refusal
+one_listed limits bytes refusal other refused by = elim by [
+  | inl it ↦ sym (same_refusal refusal other (it.only (verdict.Refused refusal) refused))
+  | inr it ↦ absurd (held_or_refused limits bytes refusal refused it.0)
+]
+
+list_refused : (limits : List ℕ) (cause : Cause) (bytes : List ℕ) (refusal : Refusal) (journal : List ℕ) (out : Change SinkState)
+    → verdict.IsRefused limits bytes refusal → ListedSource limits cause bytes out → journal ≡ []
+    → IsIdle journal out × (cause ≡ Refused refusal ⊎ IsFault cause)
+list_refused limits Quiet bytes refusal journal out refused listed none = absurd listed
+list_refused limits Accepted bytes refusal journal out refused listed none = absurd listed
+list_refused limits Written bytes refusal journal out refused listed none =
+    absurd (held_or_refused limits bytes refusal refused listed.0)
+list_refused limits (Refused other) bytes refusal journal out refused listed none =
+    (idle journal out none listed.1, inl (ap Refused (one_listed limits bytes refusal other refused listed.0)))
+list_refused limits (Usage number) bytes refusal journal out refused listed none = absurd listed
+list_refused limits ReadFault bytes refusal journal out refused listed none = absurd listed
+list_refused limits WriteFault bytes refusal journal out refused listed none =
+    absurd (held_or_refused limits bytes refusal refused listed.0)
+list_refused limits OutOfMemory bytes refusal journal out refused listed none =
+    (idle journal out none listed, inr (inr (inr refl)))
+list_refused limits Unbuilt bytes refusal journal out refused listed none =
+    absurd (held_or_refused limits bytes refusal refused listed.0)
+
 came_refused : (command : Command) (limits : List ℕ) (cause : Cause) (bytes : List ℕ) (refusal : Refusal) (journal : List ℕ) (out : Change SinkState)
     → IsRefused command limits bytes refusal → Came command limits cause bytes journal out
     → IsIdle journal out × (cause ≡ Refused refusal ⊎ IsFault cause)
@@ -173,6 +204,8 @@ came_refused command.Run limits cause bytes refusal journal out refused came =
     run_refused limits cause bytes refusal journal out refused came
 came_refused command.Check limits cause bytes refusal journal out refused came =
     (came.1, check_refused limits cause bytes refusal refused came.0)
+came_refused command.List limits cause bytes refusal journal out refused came =
+    list_refused limits cause bytes refusal journal out refused came.0 came.1
 came_refused command.Print limits cause bytes refusal journal out refused came =
     print_refused limits cause bytes refusal journal out refused came.0 came.1
 

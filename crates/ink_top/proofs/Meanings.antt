@@ -4,7 +4,7 @@ use Rattle.ink_base.specs.declared.refusal.Refusal.{Refusal}
 use Rattle.ink_words.specs.declared.command.Command.{Command}
 use Rattle.ink_words.specs.declared.command.Command.TheVariants as command
 use Rattle.ink_words.specs.Commands.{Word, Asked, IsOrder}
-use Rattle.ink_top.specs.Calls.{IsIdle, IsRefusedBy, IsHeld, CheckedSource, RanSource, PrintedSource, Came, TellsMade, TellsFixed, Tells}
+use Rattle.ink_top.specs.Calls.{IsIdle, IsRefusedBy, IsHeld, MayBeRefusedBy, CheckedSource, RanSource, ListedSource, PrintedSource, Came, TellsMade, TellsFixed, Tells}
 use Rattle.ink_top.specs.Causes.{cause_text}
 use Rattle.ink_top.specs.Devices.{Change, SinkState, HasFailed, Gets, Cuts}
 use Rattle.ink_top.specs.Headline.{TopCall, IsUntouched, HasSource, MayRefuse, MayAccept, Means, MeansCause, ShowsFaults, IsTextOf, TellsPart, TellsCause}
@@ -16,10 +16,10 @@ use Rattle.ink_top.proofs.Telling.{IsEarly, told_as, told_late, tells_failed, wh
 -- the table of causes
 
 may_refuse : (limits bytes : List ℕ) (refusal : Refusal) → IsRefusedBy limits bytes refusal → MayRefuse command.Run limits bytes refusal
-may_refuse limits bytes refusal refused = elim refused [ inl it ↦ inl it.is | inr it ↦ inr (refl, it.0.is, it.1) ]
+may_refuse limits bytes refusal refused = elim refused [ inl it ↦ inl it.is | inr it ↦ inr (it.0.is, it.1) ]
 
 check_refuses : (limits bytes : List ℕ) (refusal : Refusal) → IsRefusedBy limits bytes refusal → MayRefuse command.Check limits bytes refusal
-check_refuses limits bytes refusal refused = elim refused [ inl it ↦ inl it.is | inr it ↦ inr (refl, it.0.is, it.1) ]
+check_refuses limits bytes refusal refused = elim refused [ inl it ↦ inl it.is | inr it ↦ inr (it.0.is, it.1) ]
 
 may_accept : (limits bytes : List ℕ) → IsHeld limits bytes → MayAccept limits bytes
 may_accept limits bytes held = elim held [ inl it ↦ inl (it.0, it.1.is) | inr it ↦ inr it.is ]
@@ -68,7 +68,7 @@ run_means call limits bytes OutOfMemory idle has ran = elim ran [
     replays = it.2;
   })
 ]
-run_means call limits bytes Unbuilt idle has ran = (idle ran.1, (limits, bytes, has, ran.0.is))
+run_means call limits bytes Unbuilt idle has ran = (idle ran.1, (limits, bytes, inl (has, ran.0.is)))
 
 nothing_written : (call : TopCall) → (IsIdle call.journal call.out → IsUntouched call) → call.out.after ≡ call.out.before → call.journal ≡ []
     → IsUntouched call
@@ -78,19 +78,39 @@ print_means : (call : TopCall) (limits bytes : List ℕ) (cause : Cause) → (Is
     → HasSource call command.Print limits bytes → PrintedSource limits cause bytes call.out → call.journal ≡ [] → Means cause call
 print_means call limits bytes Quiet idle has printed none = absurd printed
 print_means call limits bytes Accepted idle has printed none = absurd printed
-print_means call limits bytes Written idle has printed none = (limits, bytes, printed.0, has, printed.1, none, printed.2)
+print_means call limits bytes Written idle has printed none = (limits, bytes, printed.0, inl (has, printed.1), none, printed.2)
 print_means call limits bytes (Refused refusal) idle has printed none =
     (nothing_written call idle printed.1 none, (command.Print, limits, bytes, has, inl printed.0.comes))
 print_means call limits bytes (Usage number) idle has printed none = absurd printed
 print_means call limits bytes ReadFault idle has printed none = absurd printed
-print_means call limits bytes WriteFault idle has printed none = inl (limits, bytes, inr (printed.0, has, printed.1, none, printed.2))
+print_means call limits bytes WriteFault idle has printed none = inl (limits, bytes, inr (printed.0, inl (has, printed.1), none, printed.2))
 print_means call limits bytes OutOfMemory idle has printed none = inl (nothing_written call idle printed none)
 print_means call limits bytes Unbuilt idle has printed none = absurd printed
+
+list_refuses : (limits bytes : List ℕ) (refusal : Refusal) → MayBeRefusedBy limits bytes refusal → MayRefuse command.List limits bytes refusal
+list_refuses limits bytes refusal refused = elim refused [ inl it ↦ inl it.is | inr it ↦ inr (may_accept limits bytes it.0, it.1) ]
+
+list_means : (call : TopCall) (limits bytes : List ℕ) (cause : Cause) → (IsIdle call.journal call.out → IsUntouched call)
+    → HasSource call command.List limits bytes → ListedSource limits cause bytes call.out → call.journal ≡ [] → Means cause call
+list_means call limits bytes Quiet idle has listed none = absurd listed
+list_means call limits bytes Accepted idle has listed none = absurd listed
+list_means call limits bytes Written idle has listed none =
+    let text = listed.1 in (limits, bytes, text.0, inr (has, may_accept limits bytes listed.0, text.1), none, text.2)
+list_means call limits bytes (Refused refusal) idle has listed none =
+    (nothing_written call idle listed.1 none, (command.List, limits, bytes, has, list_refuses limits bytes refusal listed.0))
+list_means call limits bytes (Usage number) idle has listed none = absurd listed
+list_means call limits bytes ReadFault idle has listed none = absurd listed
+list_means call limits bytes WriteFault idle has listed none =
+    let text = listed.1 in inl (limits, bytes, inr (text.0, inr (has, may_accept limits bytes listed.0, text.1), none, text.2))
+list_means call limits bytes OutOfMemory idle has listed none = inl (nothing_written call idle listed none)
+list_means call limits bytes Unbuilt idle has listed none =
+    (nothing_written call idle listed.1 none, (limits, bytes, inr (has, may_accept limits bytes listed.0)))
 
 came_means : (call : TopCall) (command : Command) (limits bytes : List ℕ) (cause : Cause) → (IsIdle call.journal call.out → IsUntouched call)
     → HasSource call command limits bytes → Came command limits cause bytes call.journal call.out → Means cause call
 came_means call command.Run limits bytes cause idle has came = run_means call limits bytes cause idle has came
 came_means call command.Check limits bytes cause idle has came = check_means call limits bytes cause (idle came.1) has came.0
+came_means call command.List limits bytes cause idle has came = list_means call limits bytes cause idle has came.0 came.1
 came_means call command.Print limits bytes cause idle has came = print_means call limits bytes cause idle has came.0 came.1
 
 found_means : (call : TopCall) (went : Went call) → Means went.found call
@@ -161,10 +181,23 @@ print_failed limits WriteFault bytes out printed failed = refl
 print_failed limits OutOfMemory bytes out printed failed = absurd (idle_or_failed out printed failed)
 print_failed limits Unbuilt bytes out printed failed = absurd printed
 
+list_failed : (limits : List ℕ) (cause : Cause) (bytes : List ℕ) (out : Change SinkState) → ListedSource limits cause bytes out
+    → HasFailed out → cause ≡ WriteFault
+list_failed limits Quiet bytes out listed failed = absurd listed
+list_failed limits Accepted bytes out listed failed = absurd listed
+list_failed limits Written bytes out listed failed = absurd (let text = listed.1 in whole_or_failed out text.0 text.2 failed)
+list_failed limits (Refused refusal) bytes out listed failed = absurd (idle_or_failed out listed.1 failed)
+list_failed limits (Usage number) bytes out listed failed = absurd listed
+list_failed limits ReadFault bytes out listed failed = absurd listed
+list_failed limits WriteFault bytes out listed failed = refl
+list_failed limits OutOfMemory bytes out listed failed = absurd (idle_or_failed out listed failed)
+list_failed limits Unbuilt bytes out listed failed = absurd (idle_or_failed out listed.1 failed)
+
 came_failed : (command : Command) (limits : List ℕ) (cause : Cause) (bytes journal : List ℕ) (out : Change SinkState)
     → Came command limits cause bytes journal out → HasFailed out → cause ≡ WriteFault
 came_failed command.Run limits cause bytes journal out came failed = run_failed limits cause bytes journal out came failed
 came_failed command.Check limits cause bytes journal out came failed = absurd (idle_or_failed out came.1.output failed)
+came_failed command.List limits cause bytes journal out came failed = list_failed limits cause bytes out came.0 failed
 came_failed command.Print limits cause bytes journal out came failed = print_failed limits cause bytes out came.0 failed
 
 out_failed : (call : TopCall) (went : Went call) → HasFailed call.out → went.found ≡ WriteFault

@@ -12,6 +12,7 @@ use Rattle.ink_first.specs.Reading.{Finds}
 use Rattle.std.specs.declared.alloc.Global.{Global}
 use Rattle.ink_top.specs.Verdict.{no_main, Verdict, Accepted, Refused, Further, IsVerdict, IsOnlyVerdict, Judges}
 use Rattle.ink_top.specs.World.{Program}
+use Rattle.ink_grammar.specs.declared.tree.Module.{Module}
 use Rattle.ink_top.specs.declared.verdict.ModuleKind.{ModuleKind}
 use Rattle.ink_top.specs.declared.verdict.ModuleKind.TheVariants as kind
 
@@ -148,6 +149,6 @@ form_missed {E} limits bytes tokens listed tree result finds is same some reads 
     subst (λ (t : List Token). Finds {E = E} (IsFirstForm bytes t) (Ok None)) same (subst (Finds (IsFirstForm bytes listed)) is finds) in
     is_further limits bytes tokens tree reads some here
 
-pub is_first : (limits bytes : List ℕ) (found : ModuleKind) (texts : Vec (List ℕ) Global) → Judges limits bytes (Ok found) → found ≡ kind.First texts
+pub is_first : (limits bytes : List ℕ) (found : ModuleKind) (texts : Vec (List ℕ) Global) (parsed : Module) → Judges limits bytes (Ok found) → found ≡ kind.First texts parsed
     → IsOnlyVerdict limits bytes (Accepted texts.items)
-is_first limits bytes found texts judges is = subst (λ (f : ModuleKind). Judges limits bytes (Ok f)) is judges
+is_first limits bytes found texts parsed judges is = subst (λ (f : ModuleKind). Judges limits bytes (Ok f)) is judges

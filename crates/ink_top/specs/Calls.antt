@@ -7,7 +7,10 @@ use Rattle.ink_words.specs.declared.command.Command.{Command}
 use Rattle.ink_words.specs.declared.command.Command.TheVariants as command
 use Rattle.ink_words.specs.Commands.{Word, Asked, IsOrder, IsWrongWord}
 use Rattle.ink_base.specs.declared.refusal.Refusal.{Refusal}
+use Rattle.ink_code.specs.declared.code.Code.{Code}
+use Rattle.ink_code.specs.Listing.{listing_text}
 use Rattle.ink_names.specs.Later.{IsLater}
+use Rattle.ink_ranges.specs.Ranges.{IsWithin}
 use Rattle.ink_reading.specs.Reading as reading
 use Rattle.ink_top.specs.Causes.{cause_text}
 use Rattle.ink_top.specs.Devices.{Change, FilesState, SinkState, HasFailed, Gets, Cuts}
@@ -69,6 +72,11 @@ abbrev pub IsHeld : List ℕ → List ℕ → Type 0
 IsHeld limits bytes =
     ((program : Program) × IsOnlyVerdict limits bytes (verdict.Accepted program)) ⊎ IsOnlyVerdict limits bytes verdict.Further
 
+-- a source that is listed is refused: by its reading, or by a phase behind it, also where it is of the first form
+abbrev pub MayBeRefusedBy : List ℕ → List ℕ → Refusal → Type 0
+MayBeRefusedBy limits bytes refusal =
+    IsOnlyVerdict limits bytes (verdict.Refused refusal) ⊎ (IsHeld limits bytes × IsLater refusal)
+
 -- What came of a source that is to be checked, by the cause.
 abbrev pub CheckedSource : List ℕ → Cause → List ℕ → Type 0
 CheckedSource limits Quiet bytes = ⊥
@@ -96,6 +104,34 @@ RanSource limits OutOfMemory bytes journal out =
     IsIdle journal out ⊎ ((program : Program) × IsOnlyVerdict limits bytes (verdict.Accepted program) × Replays program journal out)
 RanSource limits Unbuilt bytes journal out = IsOnlyVerdict limits bytes verdict.Further × IsIdle journal out
 
+-- the listing of a code in which all that it names is there
+abbrev pub IsListing : List ℕ → Type 0
+IsListing text = (code : Code) × IsWithin code × (text ≡ listing_text code)
+
+-- what came of the listing of a module that the phases behind the reading judge, by the cause
+abbrev pub ListedModule : Cause → Change SinkState → Type 0
+ListedModule Quiet out = ⊥
+ListedModule Accepted out = ⊥
+ListedModule Written out = (text : List ℕ) × IsListing text × Gets out text
+ListedModule (Refused refusal) out = IsLater refusal × (out.after ≡ out.before)
+ListedModule (Usage number) out = ⊥
+ListedModule ReadFault out = ⊥
+ListedModule WriteFault out = (text : List ℕ) × IsListing text × Cuts out text
+ListedModule OutOfMemory out = out.after ≡ out.before
+ListedModule Unbuilt out = out.after ≡ out.before
+
+-- What came of a source that is to be listed, by the cause: its reading refuses it, or it is judged and listed.
+abbrev pub ListedSource : List ℕ → Cause → List ℕ → Change SinkState → Type 0
+ListedSource limits Quiet bytes out = ⊥
+ListedSource limits Accepted bytes out = ⊥
+ListedSource limits Written bytes out = IsHeld limits bytes × ((text : List ℕ) × IsListing text × Gets out text)
+ListedSource limits (Refused refusal) bytes out = MayBeRefusedBy limits bytes refusal × (out.after ≡ out.before)
+ListedSource limits (Usage number) bytes out = ⊥
+ListedSource limits ReadFault bytes out = ⊥
+ListedSource limits WriteFault bytes out = IsHeld limits bytes × ((text : List ℕ) × IsListing text × Cuts out text)
+ListedSource limits OutOfMemory bytes out = out.after ≡ out.before
+ListedSource limits Unbuilt bytes out = IsHeld limits bytes × (out.after ≡ out.before)
+
 -- What came of a source that is to be printed, by the cause. No cause comes with an event, and without memory nothing
 -- was written.
 abbrev pub PrintedSource : List ℕ → Cause → List ℕ → Change SinkState → Type 0
@@ -114,6 +150,7 @@ PrintedSource limits Unbuilt bytes out = ⊥
 abbrev pub Came : Command → List ℕ → Cause → List ℕ → List ℕ → Change SinkState → Type 0
 Came command.Run limits cause bytes journal out = RanSource limits cause bytes journal out
 Came command.Check limits cause bytes journal out = CheckedSource limits cause bytes × IsIdle journal out
+Came command.List limits cause bytes journal out = ListedSource limits cause bytes out × (journal ≡ [])
 Came command.Print limits cause bytes journal out = PrintedSource limits cause bytes out × (journal ≡ [])
 
 -- What came of a file. Either its first bytes were read, or nothing was done.

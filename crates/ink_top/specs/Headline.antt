@@ -1,5 +1,5 @@
 -- What the top call promises.
-use Rattle.std.specs.Prelude.{◌≡◌, ℕ, ◌<◌, ◌⊎◌, Bool, true, false, List, [], ◌++◌, take, Option, None, Some, option_map}
+use Rattle.std.specs.Prelude.{◌≡◌, ℕ, ◌<◌, ◌⊎◌, List, [], ◌++◌, take, Option, None, Some, option_map}
 use Rattle.ink_devices.specs.Outside.{Directory, Reads, appended}
 use Rattle.ink_base.specs.declared.token.Token.{Token}
 use Rattle.ink_base.specs.declared.refusal.Refusal.{Refusal}
@@ -11,7 +11,7 @@ use Rattle.ink_reading.specs.Reading as reading
 use Rattle.ink_print.specs.Layout.{print}
 use Rattle.ink_names.specs.Later.{IsLater}
 use Rattle.ink_top.specs.Causes.{cause_text, IsFault}
-use Rattle.ink_top.specs.Calls.{IsFront, IsCutFront, most_read}
+use Rattle.ink_top.specs.Calls.{IsFront, IsCutFront, IsListing, most_read}
 use Rattle.ink_top.specs.Devices.{Change, FilesState, SinkState, KeepsFiles, HasFailed, Gets, Cuts}
 use Rattle.ink_top.specs.Runs.{Replays, ReplaysCut}
 use Rattle.ink_round.specs.ReadsBack.{IsPrint, ReadsBack}
@@ -56,16 +56,11 @@ ChecksSource call limits bytes = (file : Word) × TakesSource call (asked comman
 abbrev pub PrintsSource : TopCall → List ℕ → List ℕ → Type 0
 PrintsSource call limits bytes = (file : Word) × TakesSource call (asked command.Print file limits) bytes
 
--- whether a command judges a source, and doesn't only read it
-abbrev pub is_to_judge : Command → Bool
-is_to_judge command.Run = true
-is_to_judge command.Check = true
-is_to_judge command.Print = false
-
 -- what a command refuses of a source by its reading: what is judged, also that it has no token
 abbrev pub IsRefused : Command → List ℕ → List ℕ → Refusal → Type 0
 IsRefused command.Run limits bytes refusal = verdict.IsRefused limits bytes refusal
 IsRefused command.Check limits bytes refusal = verdict.IsRefused limits bytes refusal
+IsRefused command.List limits bytes refusal = verdict.IsRefused limits bytes refusal
 IsRefused command.Print limits bytes refusal = reading.ComesTo limits bytes (reading.Refuses refusal)
 
 -- A refused module: nothing was done, and the cause is the refusal, unless a device failed or memory ran out.
@@ -133,6 +128,16 @@ HasSource call command limits bytes =
     (file : Word) × IsOrder (asked command file limits) call.words
     × Reads call.files.before.held file (most_read limits) bytes
 
+-- what a check may accept, and what may be listed: a module of the first form, or one that the phases behind the reading judge
+abbrev pub MayAccept : List ℕ → List ℕ → Type 0
+MayAccept limits bytes = ((program : Program) × IsAccepted limits bytes program) ⊎ IsFurther limits bytes
+
+-- a text that is written: the print of a source, or the listing of a code for it
+abbrev pub IsTextFor : TopCall → List ℕ → List ℕ → List ℕ → Type 0
+IsTextFor call limits bytes text =
+    (HasSource call command.Print limits bytes × IsPrint limits bytes text)
+    ⊎ (HasSource call command.List limits bytes × MayAccept limits bytes × IsListing text)
+
 -- a module of the first form is run, and what the output got is that of the journal's replay
 pub record RunsModule (call : TopCall) : Type 0 where
   pub limits : List ℕ
@@ -142,29 +147,32 @@ pub record RunsModule (call : TopCall) : Type 0 where
   pub accepted : IsAccepted limits bytes program
   pub replays : Replays program call.journal call.out
 
--- the output failed: within the last print of a run, or within the print of a source
+-- the output failed: within the last print of a run, or within a text
 abbrev pub CutsOutput : TopCall → Type 0
 CutsOutput call = (limits : List ℕ) × (bytes : List ℕ) × (((program : Program)
     × HasSource call command.Run limits bytes × IsAccepted limits bytes program × ReplaysCut program call.journal call.out)
-    ⊎ ((text : List ℕ) × HasSource call command.Print limits bytes × IsPrint limits bytes text × (call.journal ≡ []) × Cuts call.out text))
+    ⊎ ((text : List ℕ) × IsTextFor call limits bytes text × (call.journal ≡ []) × Cuts call.out text))
+
+-- the phases behind the reading judge a source for a command. One of the first form is judged by them to be listed
+abbrev pub MayJudge : Command → List ℕ → List ℕ → Type 0
+MayJudge command.Run limits bytes = IsFurther limits bytes
+MayJudge command.Check limits bytes = IsFurther limits bytes
+MayJudge command.List limits bytes = MayAccept limits bytes
+MayJudge command.Print limits bytes = ⊥
 
 -- what a command may refuse of a source: what its reading breaks, and where the command judges it, what the phases
 -- behind the reading say
 abbrev pub MayRefuse : Command → List ℕ → List ℕ → Refusal → Type 0
 MayRefuse command limits bytes refusal =
-    IsRefused command limits bytes refusal ⊎ ((is_to_judge command ≡ true) × IsFurther limits bytes × IsLater refusal)
-
--- what a check may accept: a module of the first form, or one that the phases behind the reading judge
-abbrev pub MayAccept : List ℕ → List ℕ → Type 0
-MayAccept limits bytes = ((program : Program) × IsAccepted limits bytes program) ⊎ IsFurther limits bytes
+    IsRefused command limits bytes refusal ⊎ (MayJudge command limits bytes × IsLater refusal)
 
 -- The table of causes: what each one says of a call.
 abbrev pub Means : Cause → TopCall → Type 0
 Means Quiet call = (ran : RunsModule call) × IsQuiet ran.replays.world
 Means Accepted call = IsUntouched call × ((limits : List ℕ) × (bytes : List ℕ) × HasSource call command.Check limits bytes
     × MayAccept limits bytes)
-Means Written call = (limits : List ℕ) × (bytes : List ℕ) × (text : List ℕ) × HasSource call command.Print limits bytes
-    × IsPrint limits bytes text × (call.journal ≡ []) × Gets call.out text
+Means Written call = (limits : List ℕ) × (bytes : List ℕ) × (text : List ℕ) × IsTextFor call limits bytes text
+    × (call.journal ≡ []) × Gets call.out text
 Means (Refused refusal) call = IsUntouched call × ((command : Command) × (limits : List ℕ) × (bytes : List ℕ)
     × HasSource call command limits bytes × MayRefuse command limits bytes refusal)
 Means (Usage number) call = IsUntouched call × IsWrongWord call.words number
@@ -173,8 +181,8 @@ Means ReadFault call = IsUntouched call × ((asked : Asked) × IsOrder asked cal
 Means WriteFault call = CutsOutput call ⊎ (IsUntouched call × HasFailed call.err)
 -- memory may run out at any time: of a print nothing was written then
 Means OutOfMemory call = IsUntouched call ⊎ RunsModule call
-Means Unbuilt call = IsUntouched call × ((limits : List ℕ) × (bytes : List ℕ) × HasSource call command.Run limits bytes
-    × IsFurther limits bytes)
+Means Unbuilt call = IsUntouched call × ((limits : List ℕ) × (bytes : List ℕ) × ((HasSource call command.Run limits bytes
+    × IsFurther limits bytes) ⊎ (HasSource call command.List limits bytes × MayAccept limits bytes)))
 
 -- the cause means what the table says
 abbrev pub MeansCause : TopCall → Type 0

@@ -54,7 +54,7 @@ pub record IsOnlyVerdict (limits bytes : List ℕ) (verdict : Verdict) : Type 0 
 
 -- the answer is the verdict; where there was no memory, nothing is known
 abbrev pub Judges : List ℕ → List ℕ → Result ModuleKind JudgeFault → Type 0
-Judges limits bytes (Ok (kind.First texts)) = IsOnlyVerdict limits bytes (Accepted texts.items)
+Judges limits bytes (Ok (kind.First texts parsed)) = IsOnlyVerdict limits bytes (Accepted texts.items)
 Judges limits bytes (Ok (kind.Other parsed)) = IsOnlyVerdict limits bytes Further
 Judges limits bytes (Err (fault.Refused refusal)) = IsOnlyVerdict limits bytes (Refused refusal)
 Judges limits bytes (Err fault.OutOfMemory) = Unit {0}

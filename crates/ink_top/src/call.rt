@@ -1,18 +1,22 @@
 //! The call of the program: words, the source, what is done with it, and what is told of the cause.
 ghost use Rattle.std.specs.Prelude.{◌≡◌, ◌<◌, ◌≤◌, [], IfOk, OnOk, IfErr};
 ghost use Rattle.ink_devices.specs.Outside.{greatest_count, Reads};
-ghost use Rattle.ink_words.specs.declared.command.Command.TheVariants.{Run, Check, Print};
+ghost use Rattle.ink_words.specs.declared.command.Command.TheVariants.{Run, Check, List, Print};
 ghost use Rattle.ink_words.specs.Commands.{asked, asked_by};
-ghost use Rattle.ink_top.specs.Calls.{most_read, IsUnread, IsJudged, IsLeft, CheckedSource, Did, Performed, PrintedSource, RanSource, TriesLine, TellsMade, Tells};
+ghost use Rattle.ink_top.specs.Calls.{most_read, IsUnread, IsJudged, IsLeft, CheckedSource, Did, ListedModule, ListedSource, Performed, PrintedSource, RanSource, TriesLine, TellsMade, Tells};
 ghost use Rattle.ink_top.specs.Causes.{status_of};
 ghost use Rattle.ink_top.specs.Devices.{KeepsFiles, SinkState, files_of, sink_of};
+ghost use Rattle.ink_ranges.specs.Ranges.{IsWithin};
 ghost use Rattle.ink_top.specs.Headline.{IsPromised};
 
 use crate::cause::Cause;
 use crate::run::{RunFault, run};
 use crate::verdict::{ModuleKind, judge};
+use ink_assemble::lower;
 use ink_base::{Journal, JudgeFault, Limit, Limits, Text};
+use ink_code::{Code, listing};
 use ink_devices::{Failed, FileFault, Files, Gate, Sink, write_whole};
+use ink_emit::LowerFault;
 use ink_grammar::Module;
 use ink_round::{print_reads_back, print_source};
 use ink_words::{Order, read_words};
@@ -50,7 +54,7 @@ fn check_source(alloc: Global, source: &[u8], limits: &Limits) -> Cause
         Err(JudgeFault::Refused(refusal)) => Cause::Refused(refusal),
         Err(JudgeFault::OutOfMemory) => Cause::OutOfMemory,
         Ok(ModuleKind::Other(parsed)) => accept(alloc, source, &parsed),
-        Ok(ModuleKind::First(_)) => Cause::Accepted,
+        Ok(ModuleKind::First(_, _)) => Cause::Accepted,
     }
 }
 
@@ -71,11 +75,60 @@ fn run_source<K: Sink>(
         Err(JudgeFault::Refused(refusal)) => Cause::Refused(refusal),
         Err(JudgeFault::OutOfMemory) => Cause::OutOfMemory,
         Ok(ModuleKind::Other(parsed)) => leave(alloc, source, &parsed),
-        Ok(ModuleKind::First(texts)) => match run(alloc, &texts, journal, out) {
+        Ok(ModuleKind::First(texts, _)) => match run(alloc, &texts, journal, out) {
             Ok(()) => Cause::Quiet,
             Err(RunFault::SinkFailed) => Cause::WriteFault,
             Err(RunFault::OutOfMemory) => Cause::OutOfMemory,
         },
+    }
+}
+
+/// The code of a module, where no phase behind its reading refuses it.
+fn code_of(alloc: Global, source: &[u8], parsed: &Module) -> Result<Code, Cause>
+    ensures code { IfOk result IsWithin }
+    ensures none { IfErr result IsLeft }
+{
+    match ink_front::judge(alloc, source, parsed) {
+        Err(JudgeFault::Refused(refusal)) => Err(Cause::Refused(refusal)),
+        Err(JudgeFault::OutOfMemory) => Err(Cause::OutOfMemory),
+        Ok(checked) => match lower(alloc, &checked) {
+            Err(LowerFault::OutOfMemory) => Err(Cause::OutOfMemory),
+            Err(LowerFault::Unsound(_)) => Err(Cause::Unbuilt),
+            Ok(code) => Ok(code),
+        },
+    }
+}
+
+/// Writes the listing of a module's code.
+fn write_listing<K: Sink>(alloc: Global, source: &[u8], parsed: &Module, out: &mut K) -> Cause
+    requires { K.faults out.old < greatest_count }
+    ensures { ListedModule result
+        (record { before = sink_of K.contents K.faults out.old; after = sink_of K.contents K.faults out.new }) }
+{
+    match code_of(alloc, source, parsed) {
+        Err(cause) => cause,
+        Ok(code) => match listing(alloc, &code) {
+            Err(_) => Cause::OutOfMemory,
+            Ok(text) => match write_whole(out, text.bytes()) {
+                Ok(()) => Cause::Written,
+                Err(Failed) => Cause::WriteFault,
+            },
+        },
+    }
+}
+
+/// Judges a source, and writes the listing of its code where it is accepted.
+#[tactic(auto, using(crate::proofs::Sources::listed_first, crate::proofs::Sources::listed_further))]
+fn list_source<K: Sink>(alloc: Global, source: &[u8], limits: &Limits, out: &mut K) -> Cause
+    requires { K.faults out.old < greatest_count }
+    ensures { ListedSource limits.now result source.now
+        (record { before = sink_of K.contents K.faults out.old; after = sink_of K.contents K.faults out.new }) }
+{
+    match judge(alloc, source, limits) {
+        Err(JudgeFault::Refused(refusal)) => Cause::Refused(refusal),
+        Err(JudgeFault::OutOfMemory) => Cause::OutOfMemory,
+        Ok(ModuleKind::First(_, parsed)) => write_listing(alloc, source, &parsed, out),
+        Ok(ModuleKind::Other(parsed)) => write_listing(alloc, source, &parsed, out),
     }
 }
 
@@ -200,6 +253,34 @@ fn print_file<F: Files, K: Sink>(
     }
 }
 
+/// Reads a file, and writes the listing of its code.
+fn list_file<F: Files, K: Sink>(
+    alloc: Global,
+    file: &Text,
+    limits: &Limits,
+    files: &mut F,
+    out: &mut K,
+) -> Cause
+    requires read_faults { (F.read_faults files.old).count < greatest_count }
+    requires faults { K.faults out.old < greatest_count }
+    ensures did { Did (asked List file.now limits.now) result
+        (record {
+          before = files_of F.held F.read_faults F.write_faults files.old;
+          after = files_of F.held F.read_faults F.write_faults files.new;
+        })
+        []
+        (record { before = sink_of K.contents K.faults out.old; after = sink_of K.contents K.faults out.new }) }
+    ensures files { KeepsFiles (record {
+      before = files_of F.held F.read_faults F.write_faults files.old;
+      after = files_of F.held F.read_faults F.write_faults files.new;
+    }) }
+{
+    match read_source(alloc, file, limits, files) {
+        Err(cause) => cause,
+        Ok(source) => list_source(alloc, &source, limits, out),
+    }
+}
+
 /// What came of the words before it is told: the cause, and the name of the file that they name, empty where they
 /// name none.
 #[derive(Drop)]
@@ -239,6 +320,10 @@ fn obey<'a, F: Files, K: Sink>(
         },
         Order::Check { file, limits } => Found {
             cause: check_file(alloc, file, &limits, files),
+            file: file.bytes(),
+        },
+        Order::List { file, limits } => Found {
+            cause: list_file(alloc, file, &limits, files, out),
             file: file.bytes(),
         },
         Order::Print { file, limits } => Found {
@@ -328,13 +413,13 @@ pub struct Ended<K> {
     pub out: K,
 }
 
-/// Does what the words ask for: `run FILE`, `check FILE` or `print FILE`, with their options. The number of workers
-/// changes nothing yet.
+/// Does what the words ask for: `run FILE`, `check FILE`, `list FILE` or `print FILE`, with their options. The number of
+/// workers changes nothing yet.
 ///
 /// `run` judges the source and runs a module of the first form; its output goes to `out`. Another module that is accepted
-/// doesn't run yet. `check` judges the source and does nothing else. `print` writes the canonical print of the source to
-/// `out`. Why the call ended is told on `err` in one line, unless a run came to its end, a module was accepted or a print
-/// was written. No worker enters the gate before there are several.
+/// doesn't run yet. `check` judges the source and does nothing else. `list` judges it, and writes the listing of the code
+/// that it is lowered to. `print` writes the canonical print of the source to `out`. Why the call ended is told on `err` in
+/// one line, unless a run came to its end, a module was accepted or a text was written. No worker enters the gate before there are several.
 pub fn inko_main<F: Files, K: Sink + Send, E: Sink, G: Gate + Sync>(
     alloc: Global,
     words: &[Text],

@@ -11,7 +11,7 @@ use std::alloc::Global;
 #[derive(Drop)]
 pub enum ModuleKind {
     /// Its main prints these texts, and does nothing else.
-    First(Vec<Text>),
+    First(Vec<Text>, Module),
     /// More than that: what the phases behind the reading judge.
     Other(Module),
 }
@@ -31,7 +31,7 @@ pub fn judge(alloc: Global, source: &[u8], limits: &Limits) -> Result<ModuleKind
         }));
     }
     match first_form(alloc, source, &reading.tokens)? {
-        Some(texts) => Ok(ModuleKind::First(texts)),
+        Some(texts) => Ok(ModuleKind::First(texts, reading.module)),
         None => Ok(ModuleKind::Other(reading.module)),
     }
 }

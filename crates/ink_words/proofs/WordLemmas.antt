@@ -167,12 +167,19 @@ one_command : (one other : Command) → command_word one ≡ command_word other 
 one_command command.Run command.Run same = refl
 one_command command.Run command.Check same = let e : 114 ≡ 99 = ap first_byte same in absurd (omega (arith, e))
 one_command command.Run command.Print same = let e : 114 ≡ 112 = ap first_byte same in absurd (omega (arith, e))
+one_command command.Run command.List same = let e : 114 ≡ 108 = ap first_byte same in absurd (omega (arith, e))
 one_command command.Check command.Run same = let e : 99 ≡ 114 = ap first_byte same in absurd (omega (arith, e))
 one_command command.Check command.Check same = refl
 one_command command.Check command.Print same = let e : 99 ≡ 112 = ap first_byte same in absurd (omega (arith, e))
+one_command command.Check command.List same = let e : 99 ≡ 108 = ap first_byte same in absurd (omega (arith, e))
+one_command command.List command.Run same = let e : 108 ≡ 114 = ap first_byte same in absurd (omega (arith, e))
+one_command command.List command.Check same = let e : 108 ≡ 99 = ap first_byte same in absurd (omega (arith, e))
+one_command command.List command.Print same = let e : 108 ≡ 112 = ap first_byte same in absurd (omega (arith, e))
+one_command command.List command.List same = refl
 one_command command.Print command.Run same = let e : 112 ≡ 114 = ap first_byte same in absurd (omega (arith, e))
 one_command command.Print command.Check same = let e : 112 ≡ 99 = ap first_byte same in absurd (omega (arith, e))
 one_command command.Print command.Print same = refl
+one_command command.Print command.List same = let e : 112 ≡ 108 = ap first_byte same in absurd (omega (arith, e))
 
 begins_command : Begins IsCommand []
 begins_command = (

@@ -17,6 +17,7 @@ Word = List ℕ
 abbrev pub command_word : Command → Word
 command_word command.Run = codes "run"
 command_word command.Check = codes "check"
+command_word command.List = codes "list"
 command_word command.Print = codes "print"
 
 -- whether a command has the option of a limit
@@ -92,6 +93,7 @@ asked command file limits = record { command = command; file = file; limits = li
 abbrev pub asked_by : Order → Asked
 asked_by (order.Run file limits) = asked command.Run file.now limits
 asked_by (order.Check file limits) = asked command.Check file.now limits
+asked_by (order.List file limits) = asked command.List file.now limits
 asked_by (order.Print file limits) = asked command.Print file.now limits
 
 -- the words are this command

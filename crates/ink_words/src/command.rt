@@ -14,6 +14,8 @@ pub enum Command {
     Run,
     /// The module of a file is judged.
     Check,
+    /// The code of a file's module is listed.
+    List,
     /// The module of a file is printed.
     Print,
 }
@@ -28,6 +30,8 @@ impl Command {
             Some(Command::Run)
         } else if word.is(b"check") {
             Some(Command::Check)
+        } else if word.is(b"list") {
+            Some(Command::List)
         } else if word.is(b"print") {
             Some(Command::Print)
         } else {

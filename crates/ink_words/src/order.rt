@@ -13,6 +13,8 @@ pub enum Order<'a> {
     Run { file: &'a Text, limits: Limits },
     /// Judges the module that the file holds.
     Check { file: &'a Text, limits: Limits },
+    /// Lists the code of the module that the file holds.
+    List { file: &'a Text, limits: Limits },
     /// Prints the module that the file holds.
     Print { file: &'a Text, limits: Limits },
 }
@@ -64,6 +66,7 @@ fn order_of(command: Command, target: Target<'_>) -> Order<'_>
     match command {
         Command::Run => Order::Run { file, limits },
         Command::Check => Order::Check { file, limits },
+        Command::List => Order::List { file, limits },
         Command::Print => Order::Print { file, limits },
     }
 }

@@ -19,8 +19,8 @@ returns-in-Some c =
     form_found c.args.limits.now c.args.source.now c.in_ok-reading.reading.tokens.items c.deref.result.now _ c.in-Some.texts c.first_form.result
     c.first_form.ensures (c.in_ok-texts.was ∙ ap Ok c.in-Some.is) c.deref.ensures.value c.in_ok-reading.ensures
 
-pub returns-in-None : goal.returns-in-None
-returns-in-None c =
+pub returns : goal.returns
+returns c =
     let tokens = c.in_ok-reading.reading.tokens in
     form_missed c.args.limits.now c.args.source.now c.in_ok-reading.reading.tokens.items c.deref.result.now _ c.first_form.result
     c.first_form.ensures (c.in_ok-texts.was ∙ ap Ok c.in-None.is) c.deref.ensures.value
