@@ -1,0 +1,12 @@
+pub mod ActingLemmas
+pub mod EntriesLemmas
+pub mod ExchangeLemmas
+pub mod HomesLemmas
+pub mod MakingLemmas
+pub mod OthersLemmas
+pub mod SettlingLemmas
+pub mod Slices
+pub mod StandingLemmas
+pub mod Starts
+pub mod TakingLemmas
+pub mod TurningLemmas

@@ -1,0 +1,30 @@
+use Rattle.ink_post.proofs.OthersLemmas.{others_stay}
+use Rattle.ink_post.proofs.StandingLemmas.{brings_apart, coming_again, goes_on, same_others, same_stands, stands_on, stays_ahead}
+use Rattle.ink_post.proofs.post.Post.check_in.Goals as goal
+use Rattle.ink_proc.specs.State.{state_of}
+
+pub settle-requires-clause-goes : goal.settle-requires-clause-goes
+settle-requires-clause-goes c halt = goes_on c.args.code.now c.args.self.now c.requires.stands halt
+
+pub settle-requires-clause-brings : goal.settle-requires-clause-brings
+settle-requires-clause-brings c wish is = brings_apart c.args.code.now c.args.self.now c.args.process c.args.seat c.args.came (state_of c.args.proc) c.requires.comes c.requires.stands wish is
+
+pub returns-in-Ok-clause-stays : goal.returns-in-Ok-clause-stays
+returns-in-Ok-clause-stays c = stays_ahead c.args.code.now c.args.self.now c.args.process c.args.seat c.args.came (state_of c.args.proc) c.requires.comes c.settle.new.self c.in-Ok.answer c.settle.ensures.limits c.in-Ok.ensures.checks
+
+pub returns-in-Ok-clause-others : goal.returns-in-Ok-clause-others
+returns-in-Ok-clause-others c =
+    others_stay c.args.code.now c.args.process c.args.came (state_of c.args.proc) c.args.self.now c.settle.new.self c.settle.ensures.limits c.in-Ok.answer c.requires.stands (returns-in-Ok-clause-stays c) c.in-Ok.ensures.checks
+
+pub returns-in-Err-clause-again : goal.returns-in-Err-clause-again
+returns-in-Err-clause-again c = same_stands c.args.code.now c.args.self.now c.settle.new.self c.in-Err.ensures.checks.0.0 c.settle.ensures.limits c.requires.stands
+
+pub returns-in-Err-clause-others : goal.returns-in-Err-clause-others
+returns-in-Err-clause-others c = same_others c.args.code.now c.args.process c.args.self.now c.settle.new.self c.settle.ensures.limits c.in-Err.ensures.checks.0.0
+
+pub returns-in-Err-clause-gives : goal.returns-in-Err-clause-gives
+returns-in-Err-clause-gives c =
+    coming_again c.args.code.now c.args.self.now c.settle.new.self c.args.process c.args.seat c.args.came (state_of c.args.proc) c.in-Err.fault c.settle.ensures.limits c.requires.comes c.in-Err.ensures.checks
+
+pub returns-in-Ok-clause-stands : goal.returns-in-Ok-clause-stands
+returns-in-Ok-clause-stands c = stands_on c.args.code.now c.args.self.now c.settle.new.self c.in-Ok.answer c.requires.stands (returns-in-Ok-clause-stays c)

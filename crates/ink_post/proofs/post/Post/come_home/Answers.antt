@@ -1,0 +1,8 @@
+use Rattle.std.proofs.Common.{Some, refl}
+use Rattle.ink_post.specs.Worlds.{world_of}
+use Rattle.ink_post.proofs.HomesLemmas.{home_changed}
+use Rattle.ink_post.proofs.post.Post.come_home.Goals as goal
+
+pub returns-clause-after : goal.returns-clause-after
+returns-clause-after c output =
+    home_changed (world_of c.args.self.now output) c.args.process (Some c.args.proc) c.args.status c.args.self.now.homes.items c.set.new.self.items c.set-2.new.self.items refl c.set.ensures.after c.set-2.ensures.items

@@ -1,0 +1,5 @@
+pub mod Ends
+pub mod Entries
+pub mod Faults
+pub mod Keeps
+pub mod Stops

@@ -1,0 +1,213 @@
+//! A round.
+ghost use Rattle.std.specs.Prelude.{◌≡◌, ◌≢◌, ◌<◌, ℕ, [], length, reverse, slice_index_or, OnOk};
+ghost use Rattle.ink_code.specs.declared.code.Code.{Code as OneCode};
+ghost use Rattle.ink_post.specs.Asks.{IsComing};
+ghost use Rattle.ink_post.specs.Worlds.{Stands};
+ghost use Rattle.ink_post.specs.declared.answer.Came.TheVariants as came;
+ghost use Rattle.ink_proc.specs.State.{state_of};
+ghost use Rattle.ink_rounds.specs.Homes.{Leaves, WritesOn};
+ghost use Rattle.ink_rounds.specs.Lent.{AreHomeward, AreSliced, HasLent, IsHomeward, IsSliced};
+ghost use Rattle.ink_rounds.specs.declared.lent.Lent.{Lent as OneLent};
+ghost use Rattle.ink_run.specs.Sinks.{sink_of};
+ghost use Rattle.ink_run.specs.declared.applied.Applied.TheVariants as answer;
+
+use crate::lent::Lent;
+use ink_base::Limits;
+use ink_code::Code;
+use ink_devices::Sink;
+use ink_proc::Proc;
+use ink_run::{Applied, Came, CheckFault, World};
+use std::alloc::Global;
+use std::thread;
+use std::thread::Threads;
+
+/// The code of this process is wrong.
+#[derive(Clone, Copy)]
+pub(crate) struct WrongCode(pub(crate) u32);
+
+/// Lends the processes that are ready, by number, each under the seat of its own number. `false` without memory: then some
+/// of them aren't lent.
+fn lend_all<K: Sink + Drop>(world: &mut World<K>, lent: &mut Vec<Lent>) -> bool
+    requires none { lent.old.items ≡ [] }
+    ensures lends { (code : OneCode) → Stands code world.old.post → HasLent code world.new.post lent.new.items }
+    ensures limits { world.new.post.limits ≡ world.old.post.limits }
+    ensures written { (code : OneCode) → WritesOn code world.old.post world.new.post (sink_of K.contents K.faults world.old.sink) (sink_of K.contents K.faults world.new.sink) }
+{
+    for _ in 0..world.count() {
+        if lent.reserve(1).is_err() {
+            return false;
+        }
+        let Some(number) = world.first_ready() else {
+            return true;
+        };
+        match world.check_out(number, number) {
+            Err(_) => return true,
+            Ok(proc) => lent.push_reserved(Lent::of(number, proc)),
+        }
+    }
+    true
+}
+
+/// Each process makes its slice, by at most so many threads.
+fn make_slices<R: Threads + Sync>(
+    rt: &R,
+    alloc: Global,
+    code: &Code,
+    limits: &Limits,
+    lent: &mut [Lent],
+    workers: usize,
+)
+    requires { 0 < workers }
+    ensures each { (i : ℕ) (d : OneLent) → i < length lent.old → IsSliced code.now limits.now (slice_index_or lent.old i d) (slice_index_or lent.new i d) }
+    ensures count { length lent.new ≡ length lent.old }
+{
+    thread::for_each_mut(
+        rt,
+        lent,
+        workers,
+        &|_: usize, one: &mut Lent|
+            ensures { IsSliced code.entry.now limits.entry.now one.entry.now one.exit.now }
+        { one.make_slice(alloc, code, limits) },
+    );
+}
+
+/// The same of the processes of a vector.
+fn slice_all<R: Threads + Sync>(
+    rt: &R,
+    alloc: Global,
+    code: &Code,
+    limits: &Limits,
+    lent: &mut Vec<Lent>,
+    workers: usize,
+)
+    requires { 0 < workers }
+    ensures { AreSliced code.now limits.now lent.old.items lent.new.items }
+{
+    make_slices(rt, alloc, code, limits, lent.as_mut_slice(), workers);
+}
+
+/// The last comes first.
+fn turn_round(lent: &mut Vec<Lent>)
+    ensures { lent.new.items ≡ reverse lent.old.items }
+{
+    lent.as_mut_slice().reverse();
+}
+
+/// An error where a check-in answers that the code is wrong.
+fn right(number: u32, applied: Applied) -> Result<(), WrongCode>
+    ensures { OnOk result (applied ≢ answer.Wrong) }
+{
+    match applied {
+        Applied::Wrong => Err(WrongCode(number)),
+        Applied::Kept => Ok(()),
+        Applied::Moved => Ok(()),
+        Applied::Waits => Ok(()),
+        Applied::Panicked => Ok(()),
+        Applied::SinkFailed => Ok(()),
+        Applied::JournalFull => Ok(()),
+        Applied::Spent(_) => Ok(()),
+    }
+}
+
+/// Brings a process home for whose action there is no memory: that is never made.
+fn give_up<K: Sink + Drop>(
+    code: &Code,
+    world: &mut World<K>,
+    number: u32,
+    proc: Proc,
+) -> Result<(), WrongCode>
+    requires stands { Stands code.now world.old.post }
+    requires comes { IsComing code.now world.old.post number number came.GivesUp (state_of proc) }
+    ensures leaves { OnOk result (Leaves code.now number world.old.post world.new.post) }
+    ensures written { OnOk result (WritesOn code.now world.old.post world.new.post (sink_of K.contents K.faults world.old.sink) (sink_of K.contents K.faults world.new.sink)) }
+{
+    match world.check_in(code, number, number, proc, Came::GivesUp) {
+        Ok(applied) => {
+            match right(number, applied) {
+                Err(why) => Err(why),
+                Ok(()) => Ok(()),
+            }
+        }
+        Err(_) => unreachable!(),
+    }
+}
+
+/// Brings a process home, and what it came to is done. `false` without memory for its slice or its action.
+fn bring_home<K: Sink + Drop>(
+    code: &Code,
+    world: &mut World<K>,
+    one: Lent,
+) -> Result<bool, WrongCode>
+    requires stands { Stands code.now world.old.post }
+    requires comes { IsHomeward code.now world.old.post one }
+    ensures leaves { OnOk result (Leaves code.now one.number world.old.post world.new.post) }
+    ensures written { OnOk result (WritesOn code.now world.old.post world.new.post (sink_of K.contents K.faults world.old.sink) (sink_of K.contents K.faults world.new.sink)) }
+{
+    let Lent {
+        number,
+        proc,
+        came,
+        is_whole,
+    } = one;
+    match world.check_in(code, number, number, proc, came) {
+        Ok(applied) => {
+            match right(number, applied) {
+                Err(why) => Err(why),
+                Ok(()) => Ok(is_whole),
+            }
+        }
+        Err(CheckFault { proc, came: _ }) => {
+            match give_up(code, world, number, proc) {
+                Err(why) => Err(why),
+                Ok(()) => Ok(false),
+            }
+        }
+    }
+}
+
+/// Brings processes home, the last of them first. `false` where there was no memory for what one of them came to. At a
+/// process whose code is wrong it ends, and those behind it aren't home.
+fn bring_all_home<K: Sink + Drop>(
+    code: &Code,
+    world: &mut World<K>,
+    mut lent: Vec<Lent>,
+) -> Result<bool, WrongCode>
+    requires stands { Stands code.now world.old.post }
+    requires comes { AreHomeward code.now world.old.post (reverse lent.items) }
+    ensures stands { OnOk result (Stands code.now world.new.post) }
+    ensures written { OnOk result (WritesOn code.now world.old.post world.new.post (sink_of K.contents K.faults world.old.sink) (sink_of K.contents K.faults world.new.sink)) }
+{
+    let mut is_whole = true;
+    while let Some(one) = lent.pop() {
+        match bring_home(code, world, one) {
+            Err(why) => return Err(why),
+            Ok(was_whole) => is_whole = is_whole && was_whole,
+        }
+    }
+    Ok(is_whole)
+}
+
+/// Makes a round. `false` without memory: all processes are home, and those for whose actions there was none never make
+/// them. At a process whose code is wrong the round ends, and those behind it aren't home.
+pub(crate) fn make_round<R: Threads + Sync, K: Sink + Drop>(
+    rt: &R,
+    alloc: Global,
+    code: &Code,
+    world: &mut World<K>,
+    workers: usize,
+) -> Result<bool, WrongCode>
+    requires workers { 0 < workers }
+    requires stands { Stands code.now world.old.post }
+    ensures stands { OnOk result (Stands code.now world.new.post) }
+    ensures written { OnOk result (WritesOn code.now world.old.post world.new.post (sink_of K.contents K.faults world.old.sink) (sink_of K.contents K.faults world.new.sink)) }
+{
+    let limits = *world.limits();
+    let mut lent = Vec::new(alloc);
+    let are_lent = lend_all(world, &mut lent);
+    slice_all(rt, alloc, code, &limits, &mut lent, workers);
+    turn_round(&mut lent);
+    match bring_all_home(code, world, lent) {
+        Err(why) => Err(why),
+        Ok(is_whole) => Ok(is_whole && are_lent),
+    }
+}

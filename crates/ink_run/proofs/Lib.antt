@@ -1,0 +1,4 @@
+pub mod ActsLemmas
+pub mod Begins
+pub mod Stays
+pub mod Written
