@@ -4,7 +4,6 @@
 //! `stdout`.
 #![tactic(auto)]
 
-mod first;
 mod host;
 mod limits;
 mod lists;
@@ -47,6 +46,5 @@ fn tell_files(rt: &HostRuntime, sheet: &mut Sheet) -> io::Result<()> {
     texts::tell(alloc, sheet, &fs::read_to_string(rt, "utf8.txt")?)?;
     methods::tell(sheet, &fs::read_to_string(rt, "methods.txt")?);
     words::tell(alloc, sheet, &fs::read_to_string(rt, "words.txt")?)?;
-    first::tell(alloc, sheet, &fs::read_to_string(rt, "first.txt")?)?;
     Ok(())
 }

@@ -2,7 +2,7 @@
 
 use ink_base::{Limit, Limits, Text};
 use ink_sheet::{Sheet, words_from};
-use ink_words::{Order, read_words};
+use ink_words::{Order, read_words, recording};
 use std::alloc::{AllocError, Global};
 
 /// Each line of words with its command, or with the first word that is wrong.
@@ -12,7 +12,7 @@ pub fn tell(alloc: Global, sheet: &mut Sheet, lines: &str) -> Result<(), AllocEr
         sheet.text(line);
         let words = words(alloc, line)?;
         match read_words(&words) {
-            Ok(order) => told_order(sheet, order),
+            Ok(order) => told_order(sheet, order, recording(&words)),
             Err(number) => sheet.around(": word ", number, " is wrong\n"),
         }
     }
@@ -34,20 +34,57 @@ fn words(alloc: Global, line: &str) -> Result<Vec<Text>, AllocError> {
     Ok(words)
 }
 
-fn told_order(sheet: &mut Sheet, order: Order<'_>) {
+/// What a command is, with the file that gets the journal of a run.
+fn told_order(sheet: &mut Sheet, order: Order<'_>, recording: Option<&Text>) {
     match order {
-        Order::Run { file, limits } => target(sheet, ": runs ", file, &limits),
+        Order::Run {
+            file,
+            limits,
+            rounds,
+            ..
+        } => told_run(sheet, file, &limits, rounds, recording),
         Order::Check { file, limits } => target(sheet, ": checks ", file, &limits),
         Order::List { file, limits } => target(sheet, ": lists ", file, &limits),
         Order::Print { file, limits } => target(sheet, ": prints ", file, &limits),
+        Order::Replay {
+            file,
+            journal,
+            limits,
+        } => {
+            sheet.text(": by ");
+            sheet.bytes(journal.bytes(), "not UTF-8");
+            target(sheet, " replays ", file, &limits);
+        }
+        Order::Make(number) => sheet.around(": makes ", number as u64, "\n"),
     }
 }
 
-/// What is done to which file, and within which limits.
+/// A run, with its rounds and the file that gets its journal, where they are given.
+fn told_run(
+    sheet: &mut Sheet,
+    file: &Text,
+    limits: &Limits,
+    rounds: Option<u64>,
+    journal: Option<&Text>,
+) {
+    if let Some(rounds) = rounds {
+        sheet.numbered(": rounds ", rounds);
+    }
+    if let Some(journal) = journal {
+        sheet.text(": records ");
+        sheet.bytes(journal.bytes(), "not UTF-8");
+    }
+    target(sheet, ": runs ", file, limits);
+}
+
+/// What is done to which file, and within which limits: the bytes of a source, its height, the events, the steps of a slice
+/// and the workers.
 fn target(sheet: &mut Sheet, deed: &str, file: &Text, limits: &Limits) {
     sheet.text(deed);
     sheet.bytes(file.bytes(), "not UTF-8");
     sheet.numbered(", ", limits.get(Limit::Source));
     sheet.numbered(" ", limits.get(Limit::Height));
+    sheet.numbered(" ", limits.get(Limit::Events));
+    sheet.numbered(" ", limits.get(Limit::Slice));
     sheet.around(" ", limits.get(Limit::Workers), "\n");
 }

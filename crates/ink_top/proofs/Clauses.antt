@@ -1,86 +1,79 @@
--- From what came of the words, and what was told of it, to what the top call promises.
-use Rattle.std.proofs.Common.{◌≡◌, ℕ, ◌⊎◌, inl, inr, false, true, List, [], Option, None, Some, refl, sym, ap, subst, ◌∙◌}
-use Rattle.ink_devices.specs.Outside.{Directory, Reads}
+-- From what came of the words to what the top call promises of modules, texts and words.
+use Rattle.std.proofs.Common.{◌≡◌, ℕ, ◌⊎◌, inl, inr, List, [], Option, None, Some, refl, sym, ap, subst, ◌∙◌}
 use Rattle.ink_base.specs.declared.token.Token.{Token}
 use Rattle.ink_base.specs.declared.refusal.Refusal.{Refusal}
-use Rattle.ink_words.specs.declared.command.Command.{Command}
-use Rattle.ink_words.specs.declared.command.Command.TheVariants as command
-use Rattle.ink_words.specs.Commands.{Word, Asked, asked}
+use Rattle.ink_devices.specs.Outside.{Directory, Reads}
+use Rattle.ink_words.specs.Commands.{Word, Asked, IsOrder}
+use Rattle.ink_words.proofs.WrongWords.{no_wrong_word, one_wrong_word}
+use Rattle.ink_code.specs.Listing.{listing_text}
+use Rattle.ink_generator.specs.Generated.{generated}
 use Rattle.ink_grammar.specs.Tree.{Tree}
 use Rattle.ink_names.specs.Later.{IsLater}
-use Rattle.ink_reading.specs.Reading as reading
 use Rattle.ink_print.specs.Layout.{print}
-use Rattle.ink_top.specs.Calls.{IsIdle, IsUnread, most_read, IsRefusedBy, IsHeld, MayBeRefusedBy, CheckedSource, RanSource, ListedSource, PrintedSource, Came, Did, Performed, Tells}
-use Rattle.ink_top.specs.Causes.{IsFault}
-use Rattle.ink_top.specs.Devices.{Change, FilesState, SinkState, KeepsFiles, Gets, Cuts}
-use Rattle.ink_top.specs.Headline.{TopCall, IsUntouched, StandUnder, TakesSource, RunsSource, IsRefused, RefusesModule, IsLaterRefused, JudgesModule, LeavesUnbuilt, AcceptsModule, WritesOutput, ReachesEnd, WritesPrint, RefusesWords}
-use Rattle.ink_top.specs.Runs.{Replays, ReplaysCut}
-use Rattle.ink_top.specs.Verdict.{IsAccepted, IsFurther, IsOnlyVerdict, Verdict}
+use Rattle.ink_reading.specs.Reading as reading
 use Rattle.ink_round.specs.ReadsBack.{IsPrint}
-use Rattle.ink_top.specs.Verdict as verdict
-use Rattle.ink_top.specs.World.{Program}
-use Rattle.ink_top.specs.declared.cause.Cause.{Cause}
-use Rattle.ink_top.specs.declared.cause.Cause.TheVariants.{Quiet, Accepted, Written, Refused, Usage, ReadFault, WriteFault, OutOfMemory, Unbuilt}
-use Rattle.ink_top.proofs.Stands.{from_to, replays_nothing}
-use Rattle.ink_top.proofs.Telling.{told_fault, told_or_fault, told_late}
-use Rattle.ink_top.proofs.WrongWords.{no_wrong_word, one_wrong_word}
-
--- what came of the words, by the cause, and how that was told
-pub record Went (call : TopCall) : Type 0 where
-  pub found : Cause
-  pub file : Word
-  pub performed : Performed found file call.words call.files call.journal call.out
-  pub tells : Tells found call.cause file call.err
-  pub kept : KeepsFiles call.files
-
-pub untouched : (call : TopCall) → KeepsFiles call.files → IsIdle call.journal call.out → IsUntouched call
-untouched call kept idle = record { no-event = idle.no-event; output = idle.output; kept = kept }
+use Rattle.ink_causes.specs.Causes.{IsFault}
+use Rattle.ink_causes.specs.Devices.{Change, FilesState, SinkState, Gets, Cuts}
+use Rattle.ink_causes.specs.declared.cause.Cause.{Cause}
+use Rattle.ink_causes.specs.declared.cause.Cause.TheVariants.{Accepted, Written, Refused, Usage, WriteFault, OutOfMemory, Unbuilt}
+use Rattle.ink_commands.specs.Orders.{Deed, Came, Did, FromFile, file_of, limits_of}
+use Rattle.ink_commands.specs.Sources.{most_read, IsUnread, IsIdle, CheckedSource, HasNoCode, PrintedSource, MadeModule, WritesText}
+use Rattle.ink_commands.specs.Verdict.{IsFurther, IsOnlyVerdict, IsRefusedBy, Verdict}
+use Rattle.ink_commands.specs.Verdict as verdict
+use Rattle.ink_top.specs.Headline.{TopCall, IsUntouched, StandUnder, TakesSource, IsRefused, RefusesModule, IsLaterRefused, JudgesModule, WritesPrint, WritesModule, WritesListing, RefusesWords}
+use Rattle.ink_top.specs.Keeping.{IsKept}
+use Rattle.ink_top.proofs.Ending.{Went, deed, IsMade, final, stays, untouched, fault_unkept}
 
 -- the bytes that were read are the source
 
 some_injective : (A : Type 0) (a b : A) → Some a ≡ Some b → a ≡ b
 some_injective A a b e = cc
 
-source_is_read : (directory : Option Directory) (file : Word) (limits bytes read : List ℕ)
-    → StandUnder directory file limits bytes → Reads directory file (most_read limits) read → read ≡ bytes
-source_is_read None file limits bytes read stand reads = absurd stand
-source_is_read (Some directory) file limits bytes read stand reads = some_injective (List ℕ) read bytes (sym reads ∙ stand)
+source_is_read : (directory : Option Directory) (file : Word) (most : ℕ) (bytes read : List ℕ)
+    → StandUnder directory file most bytes → Reads directory file most read → read ≡ bytes
+source_is_read None file most bytes read stand reads = absurd stand
+source_is_read (Some directory) file most bytes read stand reads = some_injective (List ℕ) read bytes (sym reads ∙ stand)
 
 unread_is_fault : (cause : Cause) (file : Word) (files : Change FilesState) → IsUnread cause file files → IsFault cause
 unread_is_fault cause file files unread = elim unread [ inl it ↦ inl it.0 | inr it ↦ inr (inr it.0) ]
 
-idle_replays : (program : Program) (journal : List ℕ) (out : Change SinkState) → IsIdle journal out → Replays program journal out
-idle_replays program journal out idle =
-    let here : Replays program [] (from_to out.before out.after) =
-    subst (λ (s : SinkState). Replays program [] (from_to out.before s)) (sym idle.output) (replays_nothing program out.before) in
-    subst (λ (j : List ℕ). Replays program j out) (sym idle.no-event) here
+-- what was done with the source of an order
+
+with_file : (file other : Word) (most : ℕ) (Came : List ℕ → Type 0) (it : Deed) → Some file ≡ Some other → FromFile file most Came it → FromFile other most Came it
+with_file file other most Came it same from = subst (λ (f : Word). FromFile f most Came it) (some_injective Word file other same) from
+
+pub did_source : (asked : Asked) (it : Deed) (file : Word) → file_of asked ≡ Some file → Did asked it
+    → FromFile file (most_read (limits_of asked)) (Came asked it) it
+did_source (Asked.Runs own limits rounds recording) it file named did =
+    with_file own file (most_read limits) (Came (Asked.Runs own limits rounds recording) it) it named did
+did_source (Asked.Checks own limits) it file named did = with_file own file (most_read limits) (Came (Asked.Checks own limits) it) it named did
+did_source (Asked.Lists own limits) it file named did = with_file own file (most_read limits) (Came (Asked.Lists own limits) it) it named did
+did_source (Asked.Prints own limits) it file named did = with_file own file (most_read limits) (Came (Asked.Prints own limits) it) it named did
+did_source (Asked.Replays own journal limits) it file named did =
+    with_file own file (most_read limits) (Came (Asked.Replays own journal limits) it) it named did
+did_source (Asked.Makes number) it file named did = let e : None ≡ Some file = named in absurd cc
+
+-- what was done of an order that the words are
+did_order : (call : TopCall) (went : Went call) (asked : Asked) → IsOrder asked call.words → Did asked (deed call went)
+did_order call went asked order = elim went.performed [
+  | inl usage ↦ absurd (no_wrong_word call.words usage.0 (asked, order) usage.2)
+  | inr ran ↦ subst (λ (a : Asked). Did a (deed call went)) (sym (ran.2 asked order)) ran.3
+]
 
 -- what came of the words is what came of the source, or a fault before it
 performed_source : (call : TopCall) (went : Went call) (asked : Asked) (bytes : List ℕ) → TakesSource call asked bytes
-    → Came asked.command asked.limits went.found bytes call.journal call.out ⊎ (IsIdle call.journal call.out × IsFault went.found)
-performed_source call went asked bytes takes = elim went.performed [
-  | inl usage ↦ absurd (no_wrong_word call.words usage.0 (asked, takes.0) usage.2)
-  | inr ran ↦
-      elim (subst (λ (a : Asked). Did a went.found call.files call.journal call.out) (sym (ran.2 asked takes.0)) ran.4) [
-        | inl it ↦ inl (subst (λ (b : List ℕ). Came asked.command asked.limits went.found b call.journal call.out)
-            (source_is_read call.files.before.held asked.file asked.limits bytes it.0 takes.1 it.1) it.3)
-        | inr it ↦ inr (it.0, unread_is_fault went.found asked.file call.files it.1)
-      ]
-]
+    → Came asked (deed call went) bytes ⊎ (IsIdle call.journal call.out × IsFault went.found)
+performed_source call went asked bytes takes =
+    elim (did_source asked (deed call went) takes.file takes.named (did_order call went asked takes.words)) [
+      | inl it ↦ inl (subst (λ (b : List ℕ). Came asked (deed call went) b)
+          (source_is_read call.files.before.held takes.file (most_read (limits_of asked)) bytes it.0 takes.stands it.1) it.2)
+      | inr it ↦ inr (it.1, unread_is_fault went.found takes.file (deed call went).files it.2)
+    ]
 
 -- verdicts that differ
 
-accepted_or_refused : (program : Program) (refusal : Refusal) → verdict.Accepted program ≡ verdict.Refused refusal → ⊥
-accepted_or_refused program refusal e = cc
-
-accepted_or_further : (program : Program) → verdict.Accepted program ≡ verdict.Further → ⊥
-accepted_or_further program e = cc
-
 refused_or_further : (refusal : Refusal) → verdict.Refused refusal ≡ verdict.Further → ⊥
 refused_or_further refusal e = cc
-
-same_program : (one other : Program) → verdict.Accepted one ≡ verdict.Accepted other → one ≡ other
-same_program one other e = cc
 
 same_refusal : (one other : Refusal) → verdict.Refused one ≡ verdict.Refused other → one ≡ other
 same_refusal one other e = cc
@@ -104,124 +97,80 @@ one_refusal limits bytes refusal other refused by = elim by [
   | inr it ↦ absurd (refused_or_further refusal (it.0.only (verdict.Refused refusal) refused))
 ]
 
-check_refused : (limits : List ℕ) (cause : Cause) (bytes : List ℕ) (refusal : Refusal) → verdict.IsRefused limits bytes refusal
-    → CheckedSource limits cause bytes → cause ≡ Refused refusal ⊎ IsFault cause
-check_refused limits Quiet bytes refusal refused checked = absurd checked
-check_refused limits Accepted bytes refusal refused checked = elim checked [
-  | inl it ↦ absurd (accepted_or_refused it.0 refusal (sym (it.1.only (verdict.Refused refusal) refused)))
-  | inr it ↦ absurd (refused_or_further refusal (it.only (verdict.Refused refusal) refused))
-]
-check_refused limits Written bytes refusal refused checked = absurd checked
-check_refused limits (Refused other) bytes refusal refused checked = inl (ap Refused (one_refusal limits bytes refusal other refused checked))
-check_refused limits (Usage number) bytes refusal refused checked = absurd checked
-check_refused limits ReadFault bytes refusal refused checked = absurd checked
-check_refused limits WriteFault bytes refusal refused checked = absurd checked
-check_refused limits OutOfMemory bytes refusal refused checked = inr (inr (inr refl))
-check_refused limits Unbuilt bytes refusal refused checked = absurd checked
+not_further : {A : Type 0} (limits bytes : List ℕ) (refusal : Refusal) → verdict.IsRefused limits bytes refusal → IsOnlyVerdict limits bytes verdict.Further → A
+not_further {A} limits bytes refusal refused only = absurd (refused_or_further refusal (only.only (verdict.Refused refusal) refused))
 
-run_refused : (limits : List ℕ) (cause : Cause) (bytes : List ℕ) (refusal : Refusal) (journal : List ℕ) (out : Change SinkState)
-    → verdict.IsRefused limits bytes refusal → RanSource limits cause bytes journal out
-    → IsIdle journal out × (cause ≡ Refused refusal ⊎ IsFault cause)
-run_refused limits Quiet bytes refusal journal out refused ran =
-    absurd (accepted_or_refused ran.0 refusal (sym (ran.1.only (verdict.Refused refusal) refused)))
-run_refused limits Accepted bytes refusal journal out refused ran = absurd ran
-run_refused limits Written bytes refusal journal out refused ran = absurd ran
-run_refused limits (Refused other) bytes refusal journal out refused ran =
-    (ran.1, inl (ap Refused (one_refusal limits bytes refusal other refused ran.0)))
-run_refused limits (Usage number) bytes refusal journal out refused ran = absurd ran
-run_refused limits ReadFault bytes refusal journal out refused ran = absurd ran
-run_refused limits WriteFault bytes refusal journal out refused ran =
-    absurd (accepted_or_refused ran.0 refusal (sym (ran.1.only (verdict.Refused refusal) refused)))
-run_refused limits OutOfMemory bytes refusal journal out refused ran = elim ran [
-  | inl idle ↦ (idle, inr (inr (inr refl)))
-  | inr it ↦ absurd (accepted_or_refused it.0 refusal (sym (it.1.only (verdict.Refused refusal) refused)))
-]
-run_refused limits Unbuilt bytes refusal journal out refused ran =
-    absurd (refused_or_further refusal (ran.0.only (verdict.Refused refusal) refused))
+-- the cause is the refusal, or a fault
+abbrev Refuses : Refusal → Cause → Type 0
+Refuses refusal cause = cause ≡ Refused refusal ⊎ IsFault cause
+
+check_refused : (limits : List ℕ) (cause : Cause) (bytes : List ℕ) (refusal : Refusal) → verdict.IsRefused limits bytes refusal
+    → CheckedSource limits cause bytes → Refuses refusal cause
+check_refused limits Accepted bytes refusal refused checked = not_further limits bytes refusal refused checked
+check_refused limits (Refused other) bytes refusal refused checked = inl (ap Refused (one_refusal limits bytes refusal other refused checked))
+check_refused limits OutOfMemory bytes refusal refused checked = inr (inr (inr refl))
+check_refused limits cause bytes refusal refused checked = absurd checked
+
+no_code_refused : (limits : List ℕ) (cause : Cause) (bytes : List ℕ) (refusal : Refusal) → verdict.IsRefused limits bytes refusal
+    → HasNoCode limits cause bytes → Refuses refusal cause
+no_code_refused limits (Refused other) bytes refusal refused none = inl (ap Refused (one_refusal limits bytes refusal other refused none))
+no_code_refused limits Unbuilt bytes refusal refused none = not_further limits bytes refusal refused none
+no_code_refused limits OutOfMemory bytes refusal refused none = inr (inr (inr refl))
+no_code_refused limits cause bytes refusal refused none = absurd none
 
 no_print : (limits bytes : List ℕ) (refusal : Refusal) (text : List ℕ) → reading.ComesTo limits bytes (reading.Refuses refusal)
     → IsPrint limits bytes text → ⊥
 no_print limits bytes refusal text refuses prints =
     refuses_or_reads prints.tokens prints.tree refusal (prints.reads.only (reading.Refuses refusal) refuses)
 
+print_refused : (limits : List ℕ) (cause : Cause) (bytes : List ℕ) (refusal : Refusal) (out : Change SinkState)
+    → reading.ComesTo limits bytes (reading.Refuses refusal) → PrintedSource limits cause bytes out
+    → (out.after ≡ out.before) × Refuses refusal cause
+print_refused limits (Refused other) bytes refusal out refused printed =
+    (printed.1, inl (ap Refused (sym (same_told refusal other (printed.0.only (reading.Refuses refusal) refused)))))
+print_refused limits OutOfMemory bytes refusal out refused printed = (printed, inr (inr (inr refl)))
+print_refused limits cause bytes refusal out refused printed = absurd (no_print limits bytes refusal printed.0 refused printed.1)
+
 idle : (journal : List ℕ) (out : Change SinkState) → journal ≡ [] → out.after ≡ out.before → IsIdle journal out
 idle journal out none same = record { no-event = none; output = same }
 
-print_refused : (limits : List ℕ) (cause : Cause) (bytes : List ℕ) (refusal : Refusal) (journal : List ℕ) (out : Change SinkState)
-    → reading.ComesTo limits bytes (reading.Refuses refusal) → PrintedSource limits cause bytes out → journal ≡ []
-    → IsIdle journal out × (cause ≡ Refused refusal ⊎ IsFault cause)
-print_refused limits Quiet bytes refusal journal out refused printed none = absurd printed
-print_refused limits Accepted bytes refusal journal out refused printed none = absurd printed
-print_refused limits Written bytes refusal journal out refused printed none =
-    absurd (no_print limits bytes refusal printed.0 refused printed.1)
-print_refused limits (Refused other) bytes refusal journal out refused printed none = (
-  idle journal out none printed.1,
-  inl (ap Refused (sym (same_told refusal other (printed.0.only (reading.Refuses refusal) refused)))),
-)
-print_refused limits (Usage number) bytes refusal journal out refused printed none = absurd printed
-print_refused limits ReadFault bytes refusal journal out refused printed none = absurd printed
-print_refused limits WriteFault bytes refusal journal out refused printed none =
-    absurd (no_print limits bytes refusal printed.0 refused printed.1)
-print_refused limits OutOfMemory bytes refusal journal out refused printed none =
-    (idle journal out none printed, inr (inr (inr refl)))
-print_refused limits Unbuilt bytes refusal journal out refused printed none = absurd printed
-
-held_or_refused : (limits bytes : List ℕ) (refusal : Refusal) → verdict.IsRefused limits bytes refusal → IsHeld limits bytes → ⊥
-held_or_refused limits bytes refusal refused held = elim held [
-  | inl it ↦ accepted_or_refused it.0 refusal (sym (it.1.only (verdict.Refused refusal) refused))
-  | inr it ↦ refused_or_further refusal (it.only (verdict.Refused refusal) refused)
+came_refused : (asked : Asked) (it : Deed) (bytes : List ℕ) (refusal : Refusal) → IsRefused asked bytes refusal → Came asked it bytes
+    → IsIdle it.journal it.out × Refuses refusal it.cause
+came_refused (Asked.Runs file limits rounds recording) it bytes refusal refused came = elim came.0 [
+  | inl none ↦ (none.1, no_code_refused limits it.cause bytes refusal refused none.0)
+  | inr some ↦ not_further limits bytes refusal refused some.1.0
 ]
-
-one_listed : (limits bytes : List ℕ) (refusal other : Refusal) → verdict.IsRefused limits bytes refusal → MayBeRefusedBy limits bytes other
-    → other ≡ refusal
-one_listed limits bytes refusal other refused by = elim by [
-  | inl it ↦ sym (same_refusal refusal other (it.only (verdict.Refused refusal) refused))
-  | inr it ↦ absurd (held_or_refused limits bytes refusal refused it.0)
+came_refused (Asked.Checks file limits) it bytes refusal refused came = (came.1, check_refused limits it.cause bytes refusal refused came.0)
+came_refused (Asked.Lists file limits) it bytes refusal refused came = elim came.0 [
+  | inl none ↦ (idle it.journal it.out came.1 none.1, no_code_refused limits it.cause bytes refusal refused none.0)
+  | inr some ↦ not_further limits bytes refusal refused some.1.0
 ]
+came_refused (Asked.Prints file limits) it bytes refusal refused came =
+    let found = print_refused limits it.cause bytes refusal it.out refused came.0 in (idle it.journal it.out came.1 found.0, found.1)
+came_refused (Asked.Replays file journal limits) it bytes refusal refused came = elim came [
+  | inl none ↦ (none.1, no_code_refused limits it.cause bytes refusal refused none.0)
+  | inr some ↦ not_further limits bytes refusal refused some.1.0
+]
+came_refused (Asked.Makes number) it bytes refusal refused came = absurd came
 
-list_refused : (limits : List ℕ) (cause : Cause) (bytes : List ℕ) (refusal : Refusal) (journal : List ℕ) (out : Change SinkState)
-    → verdict.IsRefused limits bytes refusal → ListedSource limits cause bytes out → journal ≡ []
-    → IsIdle journal out × (cause ≡ Refused refusal ⊎ IsFault cause)
-list_refused limits Quiet bytes refusal journal out refused listed none = absurd listed
-list_refused limits Accepted bytes refusal journal out refused listed none = absurd listed
-list_refused limits Written bytes refusal journal out refused listed none =
-    absurd (held_or_refused limits bytes refusal refused listed.0)
-list_refused limits (Refused other) bytes refusal journal out refused listed none =
-    (idle journal out none listed.1, inl (ap Refused (one_listed limits bytes refusal other refused listed.0)))
-list_refused limits (Usage number) bytes refusal journal out refused listed none = absurd listed
-list_refused limits ReadFault bytes refusal journal out refused listed none = absurd listed
-list_refused limits WriteFault bytes refusal journal out refused listed none =
-    absurd (held_or_refused limits bytes refusal refused listed.0)
-list_refused limits OutOfMemory bytes refusal journal out refused listed none =
-    (idle journal out none listed, inr (inr (inr refl)))
-list_refused limits Unbuilt bytes refusal journal out refused listed none =
-    absurd (held_or_refused limits bytes refusal refused listed.0)
-
-came_refused : (command : Command) (limits : List ℕ) (cause : Cause) (bytes : List ℕ) (refusal : Refusal) (journal : List ℕ) (out : Change SinkState)
-    → IsRefused command limits bytes refusal → Came command limits cause bytes journal out
-    → IsIdle journal out × (cause ≡ Refused refusal ⊎ IsFault cause)
-came_refused command.Run limits cause bytes refusal journal out refused came =
-    run_refused limits cause bytes refusal journal out refused came
-came_refused command.Check limits cause bytes refusal journal out refused came =
-    (came.1, check_refused limits cause bytes refusal refused came.0)
-came_refused command.List limits cause bytes refusal journal out refused came =
-    list_refused limits cause bytes refusal journal out refused came.0 came.1
-came_refused command.Print limits cause bytes refusal journal out refused came =
-    print_refused limits cause bytes refusal journal out refused came.0 came.1
+refuses_unkept : (refusal : Refusal) (cause : Cause) → Refuses refusal cause → IsKept cause → ⊥
+refuses_unkept refusal cause refuses kept = elim refuses [
+  | inl is ↦ (let here : IsKept (Refused refusal) = subst IsKept is kept in here)
+  | inr fault ↦ fault_unkept cause fault kept
+]
 
 pub refused_module : (call : TopCall) → Went call → RefusesModule call
 refused_module call went asked bytes refusal takes refused =
-    let found : IsIdle call.journal call.out × (went.found ≡ Refused refusal ⊎ IsFault went.found) =
+    let found : IsIdle call.journal call.out × Refuses refusal went.found =
     elim (performed_source call went asked bytes takes) [
-      | inl came ↦ came_refused asked.command asked.limits went.found bytes refusal call.journal call.out refused came
+      | inl came ↦ came_refused asked (deed call went) bytes refusal refused came
       | inr it ↦ (it.0, inr it.1)
-    ] in
-    (untouched call went.kept found.0, told_or_fault went.found call.cause (Refused refusal) went.file call.err went.tells found.1)
+    ] in (
+      untouched call went (refuses_unkept refusal went.found found.1) found.0,
+      final call went (Refuses refusal) (λ cause fault. inr fault) found.1,
+    )
 
 -- a module that the phases behind the reading judge
-
-not_first : {A : Type 0} (limits bytes : List ℕ) (program : Program) → IsFurther limits bytes → IsOnlyVerdict limits bytes (verdict.Accepted program) → A
-not_first limits bytes program further it = absurd (accepted_or_further program (sym (it.only verdict.Further further)))
 
 -- how the judging of such a module ends: by a refusal, by this cause, or by a fault
 abbrev EndsJudging : Cause → Cause → Type 0
@@ -235,134 +184,68 @@ refused_further limits bytes refusal further by = elim by [
 
 check_further : (limits : List ℕ) (cause : Cause) (bytes : List ℕ) → IsFurther limits bytes → CheckedSource limits cause bytes
     → EndsJudging Accepted cause
-check_further limits Quiet bytes further checked = absurd checked
 check_further limits Accepted bytes further checked = inr (inl refl)
-check_further limits Written bytes further checked = absurd checked
 check_further limits (Refused other) bytes further checked = inl (other, refl, refused_further limits bytes other further checked)
-check_further limits (Usage number) bytes further checked = absurd checked
-check_further limits ReadFault bytes further checked = absurd checked
-check_further limits WriteFault bytes further checked = absurd checked
 check_further limits OutOfMemory bytes further checked = inr (inr (inr (inr refl)))
-check_further limits Unbuilt bytes further checked = absurd checked
+check_further limits cause bytes further checked = absurd checked
 
-run_further : (limits : List ℕ) (cause : Cause) (bytes : List ℕ) (journal : List ℕ) (out : Change SinkState)
-    → IsFurther limits bytes → RanSource limits cause bytes journal out → IsIdle journal out × EndsJudging Unbuilt cause
-run_further limits Quiet bytes journal out further ran = not_first limits bytes ran.0 further ran.1
-run_further limits Accepted bytes journal out further ran = absurd ran
-run_further limits Written bytes journal out further ran = absurd ran
-run_further limits (Refused other) bytes journal out further ran = (ran.1, inl (other, refl, refused_further limits bytes other further ran.0))
-run_further limits (Usage number) bytes journal out further ran = absurd ran
-run_further limits ReadFault bytes journal out further ran = absurd ran
-run_further limits WriteFault bytes journal out further ran = not_first limits bytes ran.0 further ran.1
-run_further limits OutOfMemory bytes journal out further ran = elim ran [
-  | inl it ↦ (it, inr (inr (inr (inr refl))))
-  | inr it ↦ not_first limits bytes it.0 further it.1
-]
-run_further limits Unbuilt bytes journal out further ran = (ran.1, inr (inl refl))
+no_code_further : (limits : List ℕ) (cause : Cause) (bytes : List ℕ) → IsFurther limits bytes → HasNoCode limits cause bytes
+    → EndsJudging Unbuilt cause
+no_code_further limits (Refused other) bytes further none = inl (other, refl, refused_further limits bytes other further none)
+no_code_further limits Unbuilt bytes further none = inr (inl refl)
+no_code_further limits OutOfMemory bytes further none = inr (inr (inr (inr refl)))
+no_code_further limits cause bytes further none = absurd none
 
--- a cause of such a module stays, or a fault takes its place
-told_further : (cause told held : Cause) (file : Word) (err : Change SinkState) → Tells cause told file err → EndsJudging held cause
-    → EndsJudging held told
-told_further cause told held file err tells found = elim found [
-  | inl later ↦ elim (told_or_fault cause told (Refused later.0) file err tells (inl later.1)) [
-    | inl same ↦ inl (later.0, same, later.2)
-    | inr fault ↦ inr (inr fault)
-  ]
-  | inr other ↦ inr (told_or_fault cause told held file err tells other)
+judging_unkept : (held cause : Cause) → (IsKept held → ⊥) → EndsJudging held cause → IsKept cause → ⊥
+judging_unkept held cause not ends kept = elim ends [
+  | inl later ↦ (let here : IsKept (Refused later.0) = subst IsKept later.1 kept in here)
+  | inr other ↦ elim other [ inl is ↦ not (subst IsKept is kept) | inr fault ↦ fault_unkept cause fault kept ]
 ]
+
+judged : (call : TopCall) (went : Went call) (held : Cause) → (IsKept held → ⊥) → IsIdle call.journal call.out → EndsJudging held went.found
+    → IsUntouched call × EndsJudging held call.cause
+judged call went held not idle ends = (
+  untouched call went (judging_unkept held went.found not ends) idle,
+  final call went (EndsJudging held) (λ cause fault. inr (inr fault)) ends,
+)
 
 pub judged_module : (call : TopCall) → Went call → JudgesModule call
-judged_module call went limits bytes source further =
-    let found : IsIdle call.journal call.out × EndsJudging Accepted went.found =
-    elim (performed_source call went (asked command.Check source.0 limits) bytes source.1) [
-      | inl came ↦ (came.1, check_further limits went.found bytes further came.0)
-      | inr it ↦ (it.0, inr (inr it.1))
-    ] in
-    (untouched call went.kept found.0, told_further went.found call.cause Accepted went.file call.err went.tells found.1)
-
-pub unbuilt_module : (call : TopCall) → Went call → LeavesUnbuilt call
-unbuilt_module call went limits bytes source further =
-    let found : IsIdle call.journal call.out × EndsJudging Unbuilt went.found =
-    elim (performed_source call went (asked command.Run source.0 limits) bytes source.1) [
-      | inl came ↦ run_further limits went.found bytes call.journal call.out further came
-      | inr it ↦ (it.0, inr (inr it.1))
-    ] in
-    (untouched call went.kept found.0, told_further went.found call.cause Unbuilt went.file call.err went.tells found.1)
-
--- an accepted source that is checked
-
-check_accepted : (limits : List ℕ) (cause : Cause) (bytes : List ℕ) (program : Program) → IsAccepted limits bytes program
-    → CheckedSource limits cause bytes → cause ≡ Accepted ⊎ IsFault cause
-check_accepted limits Quiet bytes program accepted checked = absurd checked
-check_accepted limits Accepted bytes program accepted checked = inl refl
-check_accepted limits Written bytes program accepted checked = absurd checked
-check_accepted limits (Refused other) bytes program accepted checked = elim checked [
-  | inl it ↦ absurd (accepted_or_refused program other (it.only (verdict.Accepted program) accepted))
-  | inr it ↦ absurd (accepted_or_further program (it.0.only (verdict.Accepted program) accepted))
-]
-check_accepted limits (Usage number) bytes program accepted checked = absurd checked
-check_accepted limits ReadFault bytes program accepted checked = absurd checked
-check_accepted limits WriteFault bytes program accepted checked = absurd checked
-check_accepted limits OutOfMemory bytes program accepted checked = inr (inr (inr refl))
-check_accepted limits Unbuilt bytes program accepted checked = absurd checked
-
-pub accepts_module : (call : TopCall) → Went call → AcceptsModule call
-accepts_module call went limits bytes program source accepted =
-    let found : IsIdle call.journal call.out × (went.found ≡ Accepted ⊎ IsFault went.found) =
-    elim (performed_source call went (asked command.Check source.0 limits) bytes source.1) [
-      | inl came ↦ (came.1, check_accepted limits went.found bytes program accepted came.0)
-      | inr it ↦ (it.0, inr it.1)
-    ] in
-    (untouched call went.kept found.0, told_or_fault went.found call.cause Accepted went.file call.err went.tells found.1)
-
--- an accepted source
-
-run_accepted : (limits : List ℕ) (cause : Cause) (bytes : List ℕ) (program : Program) (journal : List ℕ) (out : Change SinkState)
-    → IsAccepted limits bytes program → RanSource limits cause bytes journal out
-    → (Replays program journal out ⊎ ReplaysCut program journal out) × (cause ≡ Quiet ⊎ IsFault cause)
-run_accepted limits Quiet bytes program journal out accepted ran = (
-  inl (subst (λ (p : Program). Replays p journal out) (sym (same_program program ran.0 (ran.1.only (verdict.Accepted program) accepted))) ran.2),
-  inl refl,
-)
-run_accepted limits Accepted bytes program journal out accepted ran = absurd ran
-run_accepted limits Written bytes program journal out accepted ran = absurd ran
-run_accepted limits (Refused other) bytes program journal out accepted ran = elim ran.0 [
-  | inl it ↦ absurd (accepted_or_refused program other (it.only (verdict.Accepted program) accepted))
-  | inr it ↦ absurd (accepted_or_further program (it.0.only (verdict.Accepted program) accepted))
-]
-run_accepted limits (Usage number) bytes program journal out accepted ran = absurd ran
-run_accepted limits ReadFault bytes program journal out accepted ran = absurd ran
-run_accepted limits WriteFault bytes program journal out accepted ran = (
-  inr (subst (λ (p : Program). ReplaysCut p journal out) (sym (same_program program ran.0 (ran.1.only (verdict.Accepted program) accepted))) ran.2),
-  inr (inr (inl refl)),
-)
-run_accepted limits OutOfMemory bytes program journal out accepted ran = elim ran [
-  | inl it ↦ (inl (idle_replays program journal out it), inr (inr (inr refl)))
-  | inr it ↦ (
-    inl (subst (λ (p : Program). Replays p journal out) (sym (same_program program it.0 (it.1.only (verdict.Accepted program) accepted))) it.2),
-    inr (inr (inr refl)),
-  )
-]
-run_accepted limits Unbuilt bytes program journal out accepted ran =
-    absurd (accepted_or_further program (ran.0.only (verdict.Accepted program) accepted))
-
-accepted_source : (call : TopCall) (went : Went call) (limits bytes : List ℕ) (program : Program) → RunsSource call limits bytes
-    → IsAccepted limits bytes program
-    → (Replays program call.journal call.out ⊎ ReplaysCut program call.journal call.out) × (went.found ≡ Quiet ⊎ IsFault went.found)
-accepted_source call went limits bytes program source accepted =
-    elim (performed_source call went (asked command.Run source.0 limits) bytes source.1) [
-      | inl ran ↦ run_accepted limits went.found bytes program call.journal call.out accepted ran
-      | inr it ↦ (inl (idle_replays program call.journal call.out it.0), inr it.1)
+judged_module call went file limits bytes source further =
+    elim (performed_source call went (Asked.Checks file limits) bytes source) [
+      | inl came ↦ judged call went Accepted (λ none. none) came.1 (check_further limits went.found bytes further came.0)
+      | inr it ↦ judged call went Accepted (λ none. none) it.0 (inr (inr it.1))
     ]
 
-pub writes_output : (call : TopCall) → Went call → WritesOutput call
-writes_output call went limits bytes program source accepted = (accepted_source call went limits bytes program source accepted).0
+-- a text that is to be written
 
-pub reaches_end : (call : TopCall) → Went call → ReachesEnd call
-reaches_end call went limits bytes program source accepted =
-    told_or_fault went.found call.cause Quiet went.file call.err went.tells (accepted_source call went limits bytes program source accepted).1
+abbrev Whole : Cause → Change SinkState → List ℕ → Type 0
+Whole cause out text = ((cause ≡ Written) × Gets out text) ⊎ ((cause ≡ WriteFault) × Cuts out text) ⊎ (IsFault cause × (out.after ≡ out.before))
 
--- a source that is printed
+written_whole : (text : List ℕ) (cause : Cause) (out : Change SinkState) → WritesText text cause out → Whole cause out text
+written_whole text Written out writes = inl (refl, writes)
+written_whole text WriteFault out writes = inr (inl (refl, writes))
+written_whole text cause out writes = absurd writes
+
+written_unkept : (cause : Cause) → cause ≡ Written → IsKept cause → ⊥
+written_unkept cause is kept = let here : IsKept Written = subst IsKept is kept in here
+
+writing_unkept : (cause : Cause) → cause ≡ WriteFault → IsKept cause → ⊥
+writing_unkept cause is kept = let here : IsKept WriteFault = subst IsKept is kept in here
+
+written_unmade : (cause : Cause) → cause ≡ Written → IsMade cause → ⊥
+written_unmade cause is made = let here : IsMade Written = subst IsMade is made in here
+
+writing_unmade : (cause : Cause) → cause ≡ WriteFault → IsMade cause → ⊥
+writing_unmade cause is made = let here : IsMade WriteFault = subst IsMade is made in here
+
+whole_final : (call : TopCall) (went : Went call) (text : List ℕ) → Whole went.found call.out text → Whole call.cause call.out text
+whole_final call went text whole = elim whole [
+  | inl it ↦ inl (stays call went (written_unkept went.found it.0) (written_unmade went.found it.0) ∙ it.0, it.1)
+  | inr other ↦ elim other [
+    | inl it ↦ inr (inl (stays call went (writing_unkept went.found it.0) (writing_unmade went.found it.0) ∙ it.0, it.1))
+    | inr it ↦ inr (inr (final call went IsFault (λ cause fault. fault) it.0, it.1))
+  ]
+]
 
 print_is : (limits bytes text : List ℕ) (tokens : List Token) (tree : Tree) → reading.ComesTo limits bytes (reading.Reads tokens tree)
     → IsPrint limits bytes text → text ≡ print bytes tree
@@ -370,48 +253,50 @@ print_is limits bytes text tokens tree reads prints =
     prints.print ∙ ap (print bytes) (sym (same_tree tokens prints.tokens tree prints.tree (prints.reads.only (reading.Reads tokens tree) reads)))
 
 print_read : (limits : List ℕ) (cause : Cause) (bytes : List ℕ) (tokens : List Token) (tree : Tree) (out : Change SinkState)
-    → reading.ComesTo limits bytes (reading.Reads tokens tree) → PrintedSource limits cause bytes out
-    → ((cause ≡ Written) × Gets out (print bytes tree)) ⊎ ((cause ≡ WriteFault) × Cuts out (print bytes tree))
-    ⊎ (IsFault cause × (out.after ≡ out.before))
-print_read limits Quiet bytes tokens tree out reads printed = absurd printed
-print_read limits Accepted bytes tokens tree out reads printed = absurd printed
-print_read limits Written bytes tokens tree out reads printed =
-    inl (refl, subst (Gets out) (print_is limits bytes printed.0 tokens tree reads printed.1) printed.2)
+    → reading.ComesTo limits bytes (reading.Reads tokens tree) → PrintedSource limits cause bytes out → Whole cause out (print bytes tree)
 print_read limits (Refused other) bytes tokens tree out reads printed =
     absurd (refuses_or_reads tokens tree other (sym (printed.0.only (reading.Reads tokens tree) reads)))
-print_read limits (Usage number) bytes tokens tree out reads printed = absurd printed
-print_read limits ReadFault bytes tokens tree out reads printed = absurd printed
-print_read limits WriteFault bytes tokens tree out reads printed =
-    inr (inl (refl, subst (Cuts out) (print_is limits bytes printed.0 tokens tree reads printed.1) printed.2))
 print_read limits OutOfMemory bytes tokens tree out reads printed = inr (inr (inr (inr refl), printed))
-print_read limits Unbuilt bytes tokens tree out reads printed = absurd printed
-
-never : ⊥ → ⊥
-never x = x
+print_read limits cause bytes tokens tree out reads printed =
+    subst (Whole cause out) (print_is limits bytes printed.0 tokens tree reads printed.1) (written_whole printed.0 cause out printed.2)
 
 pub writes_print : (call : TopCall) → Went call → WritesPrint call
-writes_print call went limits bytes tokens tree source reads =
-    elim (performed_source call went (asked command.Print source.0 limits) bytes source.1) [
-      | inl came ↦ (
-        came.1,
-        elim (print_read limits went.found bytes tokens tree call.out reads came.0) [
-          | inl whole ↦ inl (told_late went.found call.cause Written went.file call.err went.tells whole.0 never, whole.1)
-          | inr other ↦ elim other [
-            | inl part ↦ inr (inl (told_late went.found call.cause WriteFault went.file call.err went.tells part.0 never, part.1))
-            | inr none ↦ inr (inr (told_fault went.found call.cause went.file call.err went.tells none.0, none.1))
-          ]
-        ],
-      )
-      | inr it ↦ (it.0.no-event, inr (inr (told_fault went.found call.cause went.file call.err went.tells it.1, it.0.output)))
+writes_print call went file limits bytes tokens tree source reads =
+    elim (performed_source call went (Asked.Prints file limits) bytes source) [
+      | inl came ↦ (came.1, whole_final call went (print bytes tree) (print_read limits went.found bytes tokens tree call.out reads came.0))
+      | inr it ↦ (it.0.no-event, whole_final call went (print bytes tree) (inr (inr (it.1, it.0.output))))
+    ]
+
+made_whole : (number : ℕ) (cause : Cause) (out : Change SinkState) → MadeModule number cause out → Whole cause out (generated number)
+made_whole number OutOfMemory out made = inr (inr (inr (inr refl), made))
+made_whole number cause out made = written_whole (generated number) cause out made
+
+pub writes_module : (call : TopCall) → Went call → WritesModule call
+writes_module call went number order =
+    let did = did_order call went (Asked.Makes number) order in
+    (did.1, whole_final call went (generated number) (made_whole number went.found call.out did.0))
+
+pub writes_listing : (call : TopCall) → Went call → WritesListing call
+writes_listing call went file limits bytes source further =
+    elim (performed_source call went (Asked.Lists file limits) bytes source) [
+      | inl came ↦ elim came.0 [
+        | inl none ↦ inl (judged call went Unbuilt (λ kept. kept) (idle call.journal call.out came.1 none.1)
+            (no_code_further limits went.found bytes further none.0))
+        | inr some ↦ inr (some.0, some.1.1, (came.1, whole_final call went (listing_text some.0) (written_whole (listing_text some.0) went.found call.out some.2)))
+      ]
+      | inr it ↦ inl (judged call went Unbuilt (λ kept. kept) it.0 (inr (inr it.1)))
     ]
 
 -- wrong words
 
+usage_unkept : (number : ℕ) (cause : Cause) → cause ≡ Usage number → IsKept cause → ⊥
+usage_unkept number cause is kept = let here : IsKept (Usage number) = subst IsKept is kept in here
+
 pub refuses_words : (call : TopCall) → Went call → RefusesWords call
 refuses_words call went number wrong = elim went.performed [
   | inl usage ↦ (
-    untouched call went.kept usage.3,
-    told_or_fault went.found call.cause (Usage number) went.file call.err went.tells
+    untouched call went (usage_unkept usage.0 went.found usage.1) usage.3,
+    final call went (λ cause. cause ≡ Usage number ⊎ IsFault cause) (λ cause fault. inr fault)
         (inl (usage.1 ∙ ap Usage (one_wrong_word call.words usage.0 number usage.2 wrong))),
   )
   | inr ran ↦ absurd (no_wrong_word call.words number (ran.0, ran.1) wrong)

@@ -1,8 +1,6 @@
 pub mod Clauses
+pub mod Ending
 pub mod Meanings
+pub mod Outcomes
 pub mod Promise
-pub mod Sources
-pub mod Stands
-pub mod Telling
-pub mod Verdicts
-pub mod WrongWords
+pub mod Told

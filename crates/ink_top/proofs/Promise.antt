@@ -1,21 +1,22 @@
--- What the top call promises, from what came of its words and how that was told.
+-- What the top call promises, from what came of its words, how that was told, and what became of the journal's file.
 use Rattle.ink_top.specs.Headline.{TopCall, KeepsModule, IsPromised}
-use Rattle.ink_top.proofs.Clauses.{Went, refused_module, judged_module, unbuilt_module, accepts_module, writes_output, reaches_end, writes_print, refuses_words}
-use Rattle.ink_top.proofs.Meanings.{means_cause, shows_faults, tells_cause}
+use Rattle.ink_top.proofs.Ending.{Went}
+use Rattle.ink_top.proofs.Clauses.{refused_module, judged_module, writes_print, writes_module, writes_listing, refuses_words}
+use Rattle.ink_top.proofs.Outcomes.{means_cause, keeps_other_files, records_journal, shows_faults}
+use Rattle.ink_top.proofs.Told.{tells_cause}
 
 pub promised : (call : TopCall) → Went call → KeepsModule call → IsPromised call
 promised call went same = record {
   refused_module = refused_module call went;
   judged = judged_module call went;
-  unbuilt = unbuilt_module call went;
-  accepted = accepts_module call went;
-  output = writes_output call went;
-  end = reaches_end call went;
   print = writes_print call went;
   same_module = same;
+  listing = writes_listing call went;
+  made = writes_module call went;
   usage = refuses_words call went;
   cause = means_cause call went;
-  files = went.kept;
+  files = keeps_other_files call went;
+  journal = records_journal call went;
   faults = shows_faults call went;
   told = tells_cause call went;
 }

@@ -1,25 +1,32 @@
 -- What the top call promises.
 use Rattle.std.specs.Prelude.{◌≡◌, ℕ, ◌<◌, ◌⊎◌, List, [], ◌++◌, take, Option, None, Some, option_map}
-use Rattle.ink_devices.specs.Outside.{Directory, Reads, appended}
+use Rattle.ink_base.specs.Limits.{limit_of}
+use Rattle.ink_base.specs.declared.limits.Limit.TheVariants.{Events}
 use Rattle.ink_base.specs.declared.token.Token.{Token}
 use Rattle.ink_base.specs.declared.refusal.Refusal.{Refusal}
-use Rattle.ink_words.specs.declared.command.Command.{Command}
-use Rattle.ink_words.specs.declared.command.Command.TheVariants as command
-use Rattle.ink_words.specs.Commands.{Word, Asked, asked, IsOrder, IsWrongWord}
+use Rattle.ink_devices.specs.Outside.{Directory, Reads, appended}
+use Rattle.ink_words.specs.Commands.{Word, Asked, IsOrder, IsWrongWord, recording_of}
+use Rattle.ink_code.specs.declared.code.Code.{Code}
+use Rattle.ink_code.specs.Listing.{listing_text}
+use Rattle.ink_generator.specs.Generated.{generated}
 use Rattle.ink_grammar.specs.Tree.{Tree}
-use Rattle.ink_reading.specs.Reading as reading
-use Rattle.ink_print.specs.Layout.{print}
+use Rattle.ink_journal.specs.File.{IsFile, Leaves}
 use Rattle.ink_names.specs.Later.{IsLater}
-use Rattle.ink_top.specs.Causes.{cause_text, IsFault}
-use Rattle.ink_top.specs.Calls.{IsFront, IsCutFront, IsListing, most_read}
-use Rattle.ink_top.specs.Devices.{Change, FilesState, SinkState, KeepsFiles, HasFailed, Gets, Cuts}
-use Rattle.ink_top.specs.Runs.{Replays, ReplaysCut}
+use Rattle.ink_print.specs.Layout.{print}
+use Rattle.ink_ranges.specs.Ranges.{IsWithin}
+use Rattle.ink_reading.specs.Reading as reading
 use Rattle.ink_round.specs.ReadsBack.{IsPrint, ReadsBack}
-use Rattle.ink_top.specs.Verdict.{IsAccepted, IsFurther}
-use Rattle.ink_top.specs.Verdict as verdict
-use Rattle.ink_top.specs.World.{Program, IsQuiet}
-use Rattle.ink_top.specs.declared.cause.Cause.{Cause}
-use Rattle.ink_top.specs.declared.cause.Cause.TheVariants.{Quiet, Accepted, Written, Refused, Usage, ReadFault, WriteFault, OutOfMemory, Unbuilt}
+use Rattle.ink_causes.specs.Causes.{cause_text, IsFault}
+use Rattle.ink_causes.specs.Devices.{Change, FilesState, SinkState, KeepsFiles, HasFailed, Gets, Cuts}
+use Rattle.ink_causes.specs.Telling.{IsFront, IsCutFront}
+use Rattle.ink_causes.specs.declared.cause.Cause.{Cause}
+use Rattle.ink_causes.specs.declared.cause.Cause.TheVariants.{Accepted, Written, Refused, Usage, ReadFault, WriteFault, OutOfMemory, BadJournal, Unbuilt}
+use Rattle.ink_commands.specs.Orders.{file_of, limits_of}
+use Rattle.ink_commands.specs.Runs.{RanCode, ReplayedCode}
+use Rattle.ink_commands.specs.Sources.{most_read, most_journal}
+use Rattle.ink_commands.specs.Verdict.{IsFurther}
+use Rattle.ink_commands.specs.Verdict as verdict
+use Rattle.ink_top.specs.Keeping.{IsKept, Records, FailsToRecord}
 
 -- A call, as it is seen from outside: its words, how each device changed, and what it answered.
 pub record TopCall : Type 0 where
@@ -36,37 +43,27 @@ pub record IsUntouched (call : TopCall) : Type 0 where
   pub output : call.out.after ≡ call.out.before
   pub kept : KeepsFiles call.files
 
--- These are the first bytes under a name, one more than a source may have, so that a longer one shows. It holds only
--- where the files tell what they hold.
-abbrev pub StandUnder : Option Directory → Word → List ℕ → List ℕ → Type 0
-StandUnder None file limits bytes = ⊥
-StandUnder (Some directory) file limits bytes = option_map (take (most_read limits)) (directory file) ≡ Some bytes
+-- These are the first bytes under a name, at most so many. It holds only where the files tell what they hold.
+abbrev pub StandUnder : Option Directory → Word → ℕ → List ℕ → Type 0
+StandUnder None file most bytes = ⊥
+StandUnder (Some directory) file most bytes = option_map (take most) (directory file) ≡ Some bytes
 
--- the words are this command, and these are the first bytes of its file
-abbrev pub TakesSource : TopCall → Asked → List ℕ → Type 0
-TakesSource call asked bytes = IsOrder asked call.words × StandUnder call.files.before.held asked.file asked.limits bytes
-
--- the words run such a file, check one, or print one, within these limits
-abbrev pub RunsSource : TopCall → List ℕ → List ℕ → Type 0
-RunsSource call limits bytes = (file : Word) × TakesSource call (asked command.Run file limits) bytes
-
-abbrev pub ChecksSource : TopCall → List ℕ → List ℕ → Type 0
-ChecksSource call limits bytes = (file : Word) × TakesSource call (asked command.Check file limits) bytes
-
-abbrev pub PrintsSource : TopCall → List ℕ → List ℕ → Type 0
-PrintsSource call limits bytes = (file : Word) × TakesSource call (asked command.Print file limits) bytes
+-- the words ask for this, and these are the first bytes of its file
+pub record TakesSource (call : TopCall) (asked : Asked) (bytes : List ℕ) : Type 0 where
+  pub words : IsOrder asked call.words
+  pub file : Word
+  pub named : file_of asked ≡ Some file
+  pub stands : StandUnder call.files.before.held file (most_read (limits_of asked)) bytes
 
 -- what a command refuses of a source by its reading: what is judged, also that it has no token
-abbrev pub IsRefused : Command → List ℕ → List ℕ → Refusal → Type 0
-IsRefused command.Run limits bytes refusal = verdict.IsRefused limits bytes refusal
-IsRefused command.Check limits bytes refusal = verdict.IsRefused limits bytes refusal
-IsRefused command.List limits bytes refusal = verdict.IsRefused limits bytes refusal
-IsRefused command.Print limits bytes refusal = reading.ComesTo limits bytes (reading.Refuses refusal)
+abbrev pub IsRefused : Asked → List ℕ → Refusal → Type 0
+IsRefused (Asked.Prints file limits) bytes refusal = reading.ComesTo limits bytes (reading.Refuses refusal)
+IsRefused asked bytes refusal = verdict.IsRefused (limits_of asked) bytes refusal
 
 -- A refused module: nothing was done, and the cause is the refusal, unless a device failed or memory ran out.
 abbrev pub RefusesModule : TopCall → Type 0
 RefusesModule call = (asked : Asked) (bytes : List ℕ) (refusal : Refusal)
-    → TakesSource call asked bytes → IsRefused asked.command asked.limits bytes refusal
+    → TakesSource call asked bytes → IsRefused asked bytes refusal
     → IsUntouched call × (call.cause ≡ Refused refusal ⊎ IsFault call.cause)
 
 -- a phase behind the reading refuses it
@@ -76,166 +73,196 @@ IsLaterRefused cause = (refusal : Refusal) × (cause ≡ Refused refusal) × IsL
 -- A module that is to be checked, and that the phases behind the reading judge: nothing was done, and the cause is a
 -- refusal of theirs or says that it is accepted, unless a device failed or memory ran out.
 abbrev pub JudgesModule : TopCall → Type 0
-JudgesModule call = (limits bytes : List ℕ) → ChecksSource call limits bytes → IsFurther limits bytes
+JudgesModule call = (file : Word) (limits bytes : List ℕ) → TakesSource call (Asked.Checks file limits) bytes → IsFurther limits bytes
     → IsUntouched call × (IsLaterRefused call.cause ⊎ (call.cause ≡ Accepted) ⊎ IsFault call.cause)
 
--- Such a module that is to run: nothing was done, and the cause is a refusal of theirs or says that it is more than what
--- is built, unless a device failed or memory ran out.
-abbrev pub LeavesUnbuilt : TopCall → Type 0
-LeavesUnbuilt call = (limits bytes : List ℕ) → RunsSource call limits bytes → IsFurther limits bytes
-    → IsUntouched call × (IsLaterRefused call.cause ⊎ (call.cause ≡ Unbuilt) ⊎ IsFault call.cause)
-
--- A module of the first form that is to be checked: nothing was done, and the cause says that it is accepted, unless a
--- device failed or memory ran out.
-abbrev pub AcceptsModule : TopCall → Type 0
-AcceptsModule call = (limits bytes : List ℕ) (program : Program) → ChecksSource call limits bytes → IsAccepted limits bytes program
-    → IsUntouched call × (call.cause ≡ Accepted ⊎ IsFault call.cause)
-
--- The output of a module of the first form: that of the journal's replay, whole where the sink didn't fail, and else cut
--- within the last print.
-abbrev pub WritesOutput : TopCall → Type 0
-WritesOutput call = (limits bytes : List ℕ) (program : Program) → RunsSource call limits bytes → IsAccepted limits bytes program
-    → Replays program call.journal call.out ⊎ ReplaysCut program call.journal call.out
-
--- The end of such a module, unless a device failed or memory ran out: nothing more can happen.
-abbrev pub ReachesEnd : TopCall → Type 0
-ReachesEnd call = (limits bytes : List ℕ) (program : Program) → RunsSource call limits bytes → IsAccepted limits bytes program
-    → call.cause ≡ Quiet ⊎ IsFault call.cause
-
--- The print of a module that is read: no event, and the output got it whole. After a write fault it may have got a part,
--- cut where it failed. After any other fault it got nothing.
-abbrev pub WritesPrint : TopCall → Type 0
-WritesPrint call = (limits bytes : List ℕ) (tokens : List Token) (tree : Tree)
-    → PrintsSource call limits bytes → reading.ComesTo limits bytes (reading.Reads tokens tree)
-    → (call.journal ≡ []) × (((call.cause ≡ Written) × Gets call.out (print bytes tree))
-    ⊎ ((call.cause ≡ WriteFault) × Cuts call.out (print bytes tree))
+-- a text was to be written: there is no event, and the output got it whole; after a write fault it may have got a part, cut
+-- where it failed, and after any other fault it got nothing
+abbrev pub WritesWhole : TopCall → List ℕ → Type 0
+WritesWhole call text = (call.journal ≡ []) × (((call.cause ≡ Written) × Gets call.out text)
+    ⊎ ((call.cause ≡ WriteFault) × Cuts call.out text)
     ⊎ (IsFault call.cause × (call.out.after ≡ call.out.before)))
+
+-- The print of a module that is read is written.
+abbrev pub WritesPrint : TopCall → Type 0
+WritesPrint call = (file : Word) (limits bytes : List ℕ) (tokens : List Token) (tree : Tree)
+    → TakesSource call (Asked.Prints file limits) bytes → reading.ComesTo limits bytes (reading.Reads tokens tree)
+    → WritesWhole call (print bytes tree)
 
 -- That print is read as the same module, but for the places of its tokens.
 abbrev pub KeepsModule : TopCall → Type 0
-KeepsModule call = (limits bytes : List ℕ) (tokens : List Token) (tree : Tree)
-    → PrintsSource call limits bytes → reading.ComesTo limits bytes (reading.Reads tokens tree)
+KeepsModule call = (file : Word) (limits bytes : List ℕ) (tokens : List Token) (tree : Tree)
+    → TakesSource call (Asked.Prints file limits) bytes → reading.ComesTo limits bytes (reading.Reads tokens tree)
     → ReadsBack bytes (print bytes tree) tree
+
+-- The module that is made for a number is written.
+abbrev pub WritesModule : TopCall → Type 0
+WritesModule call = (number : ℕ) → IsOrder (Asked.Makes number) call.words → WritesWhole call (generated number)
+
+-- Of a module that the phases behind the reading judge the listing of a code is written, which has all that it names. Or nothing was done, and the cause
+-- is a refusal of theirs or says that no sound code was made, unless a device failed or memory ran out.
+abbrev pub WritesListing : TopCall → Type 0
+WritesListing call = (file : Word) (limits bytes : List ℕ) → TakesSource call (Asked.Lists file limits) bytes → IsFurther limits bytes
+    → (IsUntouched call × (IsLaterRefused call.cause ⊎ (call.cause ≡ Unbuilt) ⊎ IsFault call.cause))
+    ⊎ ((code : Code) × IsWithin code × WritesWhole call (listing_text code))
 
 -- Wrong words: nothing was done, and the cause names the first that is wrong, unless a device failed or memory ran out.
 abbrev pub RefusesWords : TopCall → Type 0
 RefusesWords call = (number : ℕ) → IsWrongWord call.words number
     → IsUntouched call × (call.cause ≡ Usage number ⊎ IsFault call.cause)
 
--- the words are this command, and these are the first bytes of its file, where the files tell that
-abbrev pub HasSource : TopCall → Command → List ℕ → List ℕ → Type 0
-HasSource call command limits bytes =
-    (file : Word) × IsOrder (asked command file limits) call.words
-    × Reads call.files.before.held file (most_read limits) bytes
+-- the words ask for this, and these are the first bytes of its file, where the files tell that
+pub record HasSource (call : TopCall) (asked : Asked) (bytes : List ℕ) : Type 0 where
+  pub words : IsOrder asked call.words
+  pub file : Word
+  pub named : file_of asked ≡ Some file
+  pub read : Reads call.files.before.held file (most_read (limits_of asked)) bytes
 
--- what a check may accept, and what may be listed: a module of the first form, or one that the phases behind the reading judge
-abbrev pub MayAccept : List ℕ → List ℕ → Type 0
-MayAccept limits bytes = ((program : Program) × IsAccepted limits bytes program) ⊎ IsFurther limits bytes
-
--- a text that is written: the print of a source, or the listing of a code for it
-abbrev pub IsTextFor : TopCall → List ℕ → List ℕ → List ℕ → Type 0
-IsTextFor call limits bytes text =
-    (HasSource call command.Print limits bytes × IsPrint limits bytes text)
-    ⊎ (HasSource call command.List limits bytes × MayAccept limits bytes × IsListing text)
-
--- a module of the first form is run, and what the output got is that of the journal's replay
-pub record RunsModule (call : TopCall) : Type 0 where
-  pub limits : List ℕ
+-- a module is accepted: the phases behind the reading judge it
+pub record HasModule (call : TopCall) (asked : Asked) : Type 0 where
   pub bytes : List ℕ
-  pub program : Program
-  pub source : HasSource call command.Run limits bytes
-  pub accepted : IsAccepted limits bytes program
-  pub replays : Replays program call.journal call.out
+  pub source : HasSource call asked bytes
+  pub further : IsFurther (limits_of asked) bytes
 
--- the output failed: within the last print of a run, or within a text
-abbrev pub CutsOutput : TopCall → Type 0
-CutsOutput call = (limits : List ℕ) × (bytes : List ℕ) × (((program : Program)
-    × HasSource call command.Run limits bytes × IsAccepted limits bytes program × ReplaysCut program call.journal call.out)
-    ⊎ ((text : List ℕ) × IsTextFor call limits bytes text × (call.journal ≡ []) × Cuts call.out text))
+-- these entries stand in the file of a journal
+pub record HasEntries (call : TopCall) (file : Word) (limits entries : List ℕ) : Type 0 where
+  pub bytes : List ℕ
+  pub read : Reads call.files.before.held file (most_journal limits) bytes
+  pub is-file : IsFile (limit_of Events limits) bytes entries
 
--- the phases behind the reading judge a source for a command. One of the first form is judged by them to be listed
-abbrev pub MayJudge : Command → List ℕ → List ℕ → Type 0
-MayJudge command.Run limits bytes = IsFurther limits bytes
-MayJudge command.Check limits bytes = IsFurther limits bytes
-MayJudge command.List limits bytes = MayAccept limits bytes
-MayJudge command.Print limits bytes = ⊥
+-- what came of a code, by what is asked and this cause
+abbrev pub CameOfCode : TopCall → Asked → Code → Cause → Type 0
+CameOfCode call (Asked.Runs file limits rounds recording) code cause = RanCode code limits rounds cause call.journal call.out
+CameOfCode call (Asked.Replays file journal limits) code cause =
+    (entries : List ℕ) × HasEntries call journal limits entries × ReplayedCode code limits entries cause call.journal call.out
+CameOfCode call asked code cause = ⊥
 
--- what a command may refuse of a source: what its reading breaks, and where the command judges it, what the phases
--- behind the reading say
-abbrev pub MayRefuse : Command → List ℕ → List ℕ → Refusal → Type 0
-MayRefuse command limits bytes refusal =
-    IsRefused command limits bytes refusal ⊎ (MayJudge command limits bytes × IsLater refusal)
+-- a module is run or replayed by the code that was made of it, which has all that it names, and stops for this cause
+pub record RunsModule (call : TopCall) (cause : Cause) : Type 0 where
+  pub asked : Asked
+  pub accepted : HasModule call asked
+  pub code : Code
+  pub within : IsWithin code
+  pub came : CameOfCode call asked code cause
+
+-- a text that the words ask for: a print, the listing of a code, or the module for a number
+pub data IsTextFor (call : TopCall) : List ℕ → Type 0 where
+  prints : (file : Word) (limits bytes text : List ℕ) → HasSource call (Asked.Prints file limits) bytes → IsPrint limits bytes text → IsTextFor call text
+  lists : (file : Word) (limits : List ℕ) (code : Code) → IsWithin code → HasModule call (Asked.Lists file limits) → IsTextFor call (listing_text code)
+  makes : (number : ℕ) → IsOrder (Asked.Makes number) call.words → IsTextFor call (generated number)
+
+-- a call that judges, of which this refusal is told
+abbrev pub MayRefuse : Asked → List ℕ → Refusal → Type 0
+MayRefuse (Asked.Prints file limits) bytes refusal = reading.ComesTo limits bytes (reading.Refuses refusal)
+MayRefuse asked bytes refusal =
+    verdict.IsRefused (limits_of asked) bytes refusal ⊎ (IsFurther (limits_of asked) bytes × IsLater refusal)
+
+-- the output failed within the text that was asked for
+abbrev pub CutsText : TopCall → Type 0
+CutsText call = (text : List ℕ) × IsTextFor call text × (call.journal ≡ []) × Cuts call.out text
+
+-- a run ended for this cause, and the file of its journal could not be written
+pub record UnrecordedRun (call : TopCall) : Type 0 where
+  pub cause : Cause
+  pub ran : RunsModule call cause
+  pub name : Word
+  pub asks : recording_of ran.asked ≡ Some name
+  pub fails : FailsToRecord name call.files
+
+-- the call did nothing, or ran a module
+abbrev pub IsUntouchedOrRuns : TopCall → Type 0
+IsUntouchedOrRuns call = IsUntouched call ⊎ ((cause : Cause) × RunsModule call cause)
+
+-- the file was to be read: it is that of the source, or the journal that an accepted module is to be replayed by
+abbrev pub IsToRead : TopCall → Word → Type 0
+IsToRead call file =
+    ((asked : Asked) × IsOrder asked call.words × (file_of asked ≡ Some file))
+    ⊎ ((source : Word) × (limits : List ℕ) × HasModule call (Asked.Replays source file limits))
 
 -- The table of causes: what each one says of a call.
 abbrev pub Means : Cause → TopCall → Type 0
-Means Quiet call = (ran : RunsModule call) × IsQuiet ran.replays.world
-Means Accepted call = IsUntouched call × ((limits : List ℕ) × (bytes : List ℕ) × HasSource call command.Check limits bytes
-    × MayAccept limits bytes)
-Means Written call = (limits : List ℕ) × (bytes : List ℕ) × (text : List ℕ) × IsTextFor call limits bytes text
-    × (call.journal ≡ []) × Gets call.out text
-Means (Refused refusal) call = IsUntouched call × ((command : Command) × (limits : List ℕ) × (bytes : List ℕ)
-    × HasSource call command limits bytes × MayRefuse command limits bytes refusal)
+Means Accepted call = IsUntouched call × ((file : Word) × (limits : List ℕ) × HasModule call (Asked.Checks file limits))
+Means Written call = (text : List ℕ) × IsTextFor call text × (call.journal ≡ []) × Gets call.out text
+Means (Refused refusal) call = IsUntouched call × ((asked : Asked) × (bytes : List ℕ) × HasSource call asked bytes × MayRefuse asked bytes refusal)
 Means (Usage number) call = IsUntouched call × IsWrongWord call.words number
-Means ReadFault call = IsUntouched call × ((asked : Asked) × IsOrder asked call.words
-    × (call.files.before.reads.count < call.files.after.reads.count) × (call.files.after.reads.name ≡ Some asked.file))
-Means WriteFault call = CutsOutput call ⊎ (IsUntouched call × HasFailed call.err)
--- memory may run out at any time: of a print nothing was written then
-Means OutOfMemory call = IsUntouched call ⊎ RunsModule call
-Means Unbuilt call = IsUntouched call × ((limits : List ℕ) × (bytes : List ℕ) × ((HasSource call command.Run limits bytes
-    × IsFurther limits bytes) ⊎ (HasSource call command.List limits bytes × MayAccept limits bytes)))
+Means ReadFault call = IsUntouched call × ((file : Word) × IsToRead call file
+    × (call.files.before.reads.count < call.files.after.reads.count) × (call.files.after.reads.name ≡ Some file))
+-- the output failed, or what was to be told, or the file of the journal
+Means WriteFault call = CutsText call ⊎ RunsModule call WriteFault ⊎ (IsUntouchedOrRuns call × HasFailed call.err) ⊎ UnrecordedRun call
+-- memory may run out at any time: of a text nothing was written then
+Means OutOfMemory call = IsUntouchedOrRuns call
+Means (BadJournal right) call = IsUntouched call × ((file journal : Word) × (limits bytes : List ℕ)
+    × HasModule call (Asked.Replays file journal limits) × Reads call.files.before.held journal (most_journal limits) bytes
+    × Leaves (limit_of Events limits) bytes right)
+Means Unbuilt call = IsUntouched call × ((asked : Asked) × HasModule call asked)
+-- a run or a replay stopped for it
+Means cause call = RunsModule call cause
 
 -- the cause means what the table says
 abbrev pub MeansCause : TopCall → Type 0
 MeansCause call = Means call.cause call
 
--- A fault that was counted shows in the cause, unless memory ran out: one of a sink as a write fault, and where no sink
--- failed, one of a read as a read fault.
+-- the files as they were but for the one that gets the journal: that holds it, or could not be written
+abbrev pub KeepsOtherFiles : TopCall → Type 0
+KeepsOtherFiles call = KeepsFiles call.files
+    ⊎ ((asked : Asked) × (name : Word) × IsOrder asked call.words × (recording_of asked ≡ Some name)
+    × (Records name call.journal call.files ⊎ FailsToRecord name call.files))
+
+-- The journal of a run that ended, or came to a limit, stands in the file that is to get it.
+abbrev pub RecordsJournal : TopCall → Type 0
+RecordsJournal call = (asked : Asked) (name : Word) → IsOrder asked call.words → recording_of asked ≡ Some name → IsKept call.cause
+    → Records name call.journal call.files
+
+-- a write of a file failed in the call
+abbrev pub HasFailedToWrite : TopCall → Type 0
+HasFailedToWrite call = call.files.before.writes.count < call.files.after.writes.count
+
+-- A fault that was counted shows in the cause, unless memory ran out: one of `err`, or of the file of a journal, as a write
+-- fault, and where none of these failed, one of a read as a read fault.
 abbrev pub ShowsFaults : TopCall → Type 0
 ShowsFaults call =
-    (HasFailed call.out ⊎ HasFailed call.err → call.cause ≡ WriteFault ⊎ call.cause ≡ OutOfMemory)
+    (HasFailed call.err ⊎ HasFailedToWrite call → call.cause ≡ WriteFault ⊎ call.cause ≡ OutOfMemory)
     × (call.files.before.reads.count < call.files.after.reads.count
     → call.cause ≡ ReadFault ⊎ ((call.cause ≡ WriteFault) × HasFailed call.err) ⊎ call.cause ≡ OutOfMemory)
 
--- what is told of a cause: of a read fault, with the name of the file that the words name
+-- what is told of a cause: of a read fault, with the name of the file that was to be read
 pub record IsTextOf (call : TopCall) (cause : Cause) (text : List ℕ) : Type 0 where
-  pub file : Word
-  pub named : cause ≡ ReadFault → (asked : Asked) × IsOrder asked call.words × (asked.file ≡ file)
-  pub written : text ≡ cause_text cause file
+  pub name : Word
+  pub named : cause ≡ ReadFault → IsToRead call name
+  pub report : List ℕ
+  pub written : text ≡ cause_text cause name report
 
--- a part of what would be told of a cause that the call had before a write fault took its place
-pub record IsReplaced (call : TopCall) (part : List ℕ) : Type 0 where
-  pub by : call.cause ≡ WriteFault
+-- the cause that the call had before a write fault, or want of memory, took its place, and what would be told of it
+pub record IsReplaced (call : TopCall) (text : List ℕ) : Type 0 where
+  pub by : call.cause ≡ WriteFault ⊎ call.cause ≡ OutOfMemory
   pub cause : Cause
   pub means : Means cause call
-  pub text : List ℕ
   pub told : IsTextOf call cause text
-  pub cut : IsCutFront part text
 
--- `err` failed, and got a front of the text, behind nothing or behind a part of the text that was replaced
-pub record TellsPart (call : TopCall) (text : List ℕ) : Type 0 where
-  pub failed : HasFailed call.err
+-- `err` got a front of the text, behind nothing, or behind what was told of a cause that was replaced: all of it, or a part
+-- where `err` failed
+pub record TellsBehind (call : TopCall) (text : List ℕ) : Type 0 where
   pub part : List ℕ
-  pub replaced : part ≡ [] ⊎ IsReplaced call part
+  pub replaced : part ≡ [] ⊎ ((whole : List ℕ) × IsReplaced call whole × (part ≡ whole ⊎ (IsCutFront part whole × HasFailed call.err)))
   pub front : List ℕ
-  pub is-front : IsFront front text
+  pub is-front : front ≡ text ⊎ (IsFront front text × HasFailed call.err)
   pub contents : call.err.after.contents ≡ appended call.err.before.contents (part ++ front)
 
--- The cause is told: where `err` didn't fail, it got the text of the cause and nothing else.
+-- The cause is told: `err` got the text of the cause, or failed within it.
 abbrev pub TellsCause : TopCall → Type 0
-TellsCause call = (text : List ℕ) × IsTextOf call call.cause text × (Gets call.err text ⊎ TellsPart call text)
+TellsCause call = (text : List ℕ) × IsTextOf call call.cause text × TellsBehind call text
 
 -- What each call promises, for all words, all bytes and all ways in which devices fail.
 pub record IsPromised (call : TopCall) : Type 0 where
   pub refused_module : RefusesModule call
   pub judged : JudgesModule call
-  pub unbuilt : LeavesUnbuilt call
-  pub accepted : AcceptsModule call
-  pub output : WritesOutput call
-  pub end : ReachesEnd call
   pub print : WritesPrint call
   pub same_module : KeepsModule call
+  pub listing : WritesListing call
+  pub made : WritesModule call
   pub usage : RefusesWords call
   pub cause : MeansCause call
-  pub files : KeepsFiles call.files
+  pub files : KeepsOtherFiles call
+  pub journal : RecordsJournal call
   pub faults : ShowsFaults call
   pub told : TellsCause call

@@ -1,13 +1,11 @@
 //! The top call: from the words of a command to its status.
 //!
-//! `inko_main` reads the words and the source, runs the module or prints it, and tells why it ended. Its contract is the headline of
-//! the whole program; the real devices come from the program above.
+//! `inko_main` reads the words, does what they ask for, tells why it ended, and writes the file of the journal. Its contract
+//! is the headline of the whole program; the real devices come from the program above.
 #![tactic(auto)]
 
 mod call;
-mod cause;
-mod run;
-mod verdict;
+mod record;
 
-pub use call::{Ended, inko_main};
-pub use cause::Cause;
+pub use call::{Ended, inko_main, inko_still};
+pub use ink_causes::Cause;

@@ -49,7 +49,8 @@ impl CaseFiles {
         bytes: Vec<u8>,
         reading: Reading,
     ) -> Result<CaseFiles, AllocError>
-        ensures { IfOk result (λ files. files.files.reads.count ≡ 0) }
+        ensures reads { IfOk result (λ files. files.files.reads.count ≡ 0) }
+        ensures writes { IfOk result (λ files. files.files.writes.count ≡ 0) }
     {
         let mut held = Vec::new(alloc);
         held.push((Text::of(alloc, name.as_bytes())?, bytes))?;

@@ -14,6 +14,7 @@ use ink_sheet::Sheet;
 use ink_top::{Ended, inko_main};
 use std::alloc::{AllocError, Global};
 use std::rt::Files;
+use std::thread::Threads;
 use std::{fs, io, str};
 
 /// A sink that never fails.
@@ -100,7 +101,8 @@ fn told(sheet: &mut Sheet, ended: &Ended<CountingSink>, err: &MemSink) {
 }
 
 /// How the call of these words ends, where this file is held.
-fn answer(
+fn answer<R: Threads + Sync>(
+    rt: &R,
     alloc: Global,
     sheet: &mut Sheet,
     file: &str,
@@ -114,13 +116,13 @@ fn answer(
         calls: 0,
     };
     let mut err = sink(alloc, devices.err)?;
-    let ended = inko_main(alloc, words, &mut files, out, &mut err, &OpenGate);
+    let ended = inko_main(rt, alloc, words, &mut files, out, &mut err, &OpenGate);
     told(sheet, &ended, &err);
     Ok(())
 }
 
 /// Tells the line of a case, and how its call ends.
-fn show_case<R: Files + AllocGlobal>(
+fn show_case<R: Files + AllocGlobal + Threads + Sync>(
     rt: &R,
     sheet: &mut Sheet,
     line: &str,
@@ -133,14 +135,14 @@ fn show_case<R: Files + AllocGlobal>(
         Some((file, command)) => {
             let source = fs::read(rt, file)?;
             let words = words_of(rt.alloc(), command)?;
-            answer(rt.alloc(), sheet, file, source, &words, devices)?;
+            answer(rt, rt.alloc(), sheet, file, source, &words, devices)?;
         }
     }
     Ok(())
 }
 
 /// Tells the cases of a file.
-fn show_cases<R: Files + AllocGlobal>(
+fn show_cases<R: Files + AllocGlobal + Threads + Sync>(
     rt: &R,
     sheet: &mut Sheet,
     file: &str,

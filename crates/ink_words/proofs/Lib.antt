@@ -1,2 +1,3 @@
 pub mod LimitLemmas
 pub mod WordLemmas
+pub mod WrongWords

@@ -1,55 +1,59 @@
--- The limits by their options, and the numbers that they may have.
+-- The limits by their options, and the numbers among the words.
 use Rattle.std.proofs.Common.{◌≡◌, ℕ, ◌^◌, ◌<◌, slice_index_or, lit≤, Result, Ok, sym, ap, ◌∙◌, subst, arith}
 use Rattle.std.specs.Fmt.{decimal}
 use Rattle.std.specs.Str.{IsUtf8}
 use Rattle.std.specs.Str.Parse.{ParsesUnsigned}
 use Rattle.std.proofs.lemmas.Str.{IsUtf8-from_ascii}
 use Rattle.std.proofs.lemmas.Fmt.{IsAscii-decimal, parse-decimal, decimal_injective}
-use Rattle.ink_base.specs.Limits.{all_limits, index_of, option_word, IsInRange}
+use Rattle.ink_base.specs.Limits.{all_limits, index_of, option_word, greatest_of}
 use Rattle.ink_base.proofs.LimitLemmas.{limit_at, index_below}
 use Rattle.ink_base.specs.declared.limits.Limit.{Limit}
 use Rattle.ink_base.specs.declared.limits.Limit.TheVariants.{Source, Height, Frames, Objects, Serial, Array, Text, Processes, Mailbox, Futures, Events, Local, Slice, Workers}
-use Rattle.ink_words.specs.Commands.{Word, IsNumber}
+use Rattle.ink_words.specs.Commands.{Word, IsNumber, IsWithin}
 
 -- a word that is the option of none of them
 pub no_option : (word : Word) → ((k : ℕ) → k < 14 → word ≡ option_word (slice_index_or all_limits k Source) → ⊥) → (limit : Limit) → word ≡ option_word limit → ⊥
 no_option word none limit is = none (index_of limit) (index_below limit) (is ∙ ap option_word (sym (limit_at limit)))
 
--- a number that a limit may have fits 64 bits
-pub fits : (limit : Limit) (number : ℕ) → IsInRange limit number → number < 2 ^ 64
-fits Source number within = omega (arith, within.1)
-fits Height number within = omega (arith, within.1)
-fits Frames number within = omega (arith, within.1)
-fits Objects number within = omega (arith, within.1)
-fits Serial number within = omega (arith, within.1)
-fits Array number within = omega (arith, within.1)
-fits Text number within = omega (arith, within.1)
-fits Processes number within = omega (arith, within.1)
-fits Mailbox number within = omega (arith, within.1)
-fits Futures number within = omega (arith, within.1)
-fits Events number within = omega (arith, within.1)
-fits Local number within = omega (arith, within.1)
-fits Slice number within = omega (arith, within.1)
-fits Workers number within = omega (arith, within.1)
+-- a number up to one that fits 64 bits fits them too
+pub fits : (greatest number : ℕ) → greatest < 2 ^ 64 → IsWithin greatest number → number < 2 ^ 64
+fits greatest number below within = omega (arith, below, within.1)
 
 -- digits are UTF-8
-pub number_utf8 : (limit : Limit) (number : ℕ) (word : Word) → IsNumber limit number word → IsUtf8 word
-number_utf8 limit number word is =
-    subst IsUtf8 (sym is.1) (IsUtf8-from_ascii (decimal number) (IsAscii-decimal number (fits limit number is.0)))
+pub number_utf8 : (greatest number : ℕ) (word : Word) → greatest < 2 ^ 64 → IsNumber greatest number word → IsUtf8 word
+number_utf8 greatest number word below is =
+    subst IsUtf8 (sym is.1) (IsUtf8-from_ascii (decimal number) (IsAscii-decimal number (fits greatest number below is.0)))
 
 -- and are read as their number
-pub number_parsed : {E : Type 0} (limit : Limit) (number : ℕ) (word : Word) (result : Result ℕ E) → IsNumber limit number word
+pub number_parsed : {E : Type 0} (greatest number : ℕ) (word : Word) (result : Result ℕ E) → greatest < 2 ^ 64 → IsNumber greatest number word
     → ParsesUnsigned 64 10 word result → result ≡ Ok number
-number_parsed limit number word result is parses =
-    parse-decimal 64 number word result (fits limit number is.0) (fits limit number is.0) is.1 parses
+number_parsed greatest number word result below is parses =
+    parse-decimal 64 number word result (fits greatest number below is.0) (fits greatest number below is.0) is.1 parses
 
--- one word is one number of a limit
-pub one_number : (limit : Limit) (one other : ℕ) (word : Word) → IsNumber limit one word → IsNumber limit other word → one ≡ other
-one_number limit one other word is is_other =
-    decimal_injective one other (fits limit one is.0) (fits limit other is_other.0) (sym is.1 ∙ is_other.1)
+-- one word is one number
+pub one_number : (greatest one other : ℕ) (word : Word) → greatest < 2 ^ 64 → IsNumber greatest one word → IsNumber greatest other word → one ≡ other
+one_number greatest one other word below is is_other =
+    decimal_injective one other (fits greatest one below is.0) (fits greatest other below is_other.0) (sym is.1 ∙ is_other.1)
+
+-- the greatest number of each limit fits 64 bits
+pub greatest_fits : (limit : Limit) → greatest_of limit < 2 ^ 64
+greatest_fits Source = omega arith
+greatest_fits Height = omega arith
+greatest_fits Frames = omega arith
+greatest_fits Objects = omega arith
+greatest_fits Serial = omega arith
+greatest_fits Array = omega arith
+greatest_fits Text = omega arith
+greatest_fits Processes = omega arith
+greatest_fits Mailbox = omega arith
+greatest_fits Futures = omega arith
+greatest_fits Events = omega arith
+greatest_fits Local = omega arith
+greatest_fits Slice = omega arith
+greatest_fits Workers = omega arith
 
 -- the least number is one that each limit may have
-pub least : (limit : Limit) → IsInRange limit 1
+pub least : (limit : Limit) → IsWithin (greatest_of limit) 1
 least Source = (lit≤ tt, lit≤ tt)
 least Height = (lit≤ tt, lit≤ tt)
 least Frames = (lit≤ tt, lit≤ tt)

@@ -1,11 +1,10 @@
-//! The file and the options that stand behind a command.
-ghost use Rattle.std.specs.Prelude.{◌≡◌, IfSome, IfNone, Some, None, option_map};
+//! What the words behind a command have given.
+ghost use Rattle.std.specs.Prelude.{◌≡◌, option_map};
 ghost use Rattle.ink_base.specs.Limits.{IsInRange};
-ghost use Rattle.ink_words.specs.declared.command.Command.{Command};
-ghost use Rattle.ink_words.specs.Commands.{no_arguments, with_file, with_number, is_given, GoesOn, GoesNowhere};
+ghost use Rattle.ink_words.specs.Commands.{no_arguments, with_file, with_journal, with_module, with_limit, with_rounds, with_recording, is_given, next_operand, asked_of, asked_by};
 
-use crate::command::{Command, is_name, option_of};
-use crate::number::number_of;
+use crate::command::{Command, Operand, Setting};
+use crate::order::Order;
 use ink_base::{Limit, Limits, Text};
 use std::marker::Model;
 
@@ -13,9 +12,15 @@ use std::marker::Model;
 #[derive(Drop)]
 pub(crate) struct Arguments<'a> {
     file: Option<&'a Text>,
+    journal: Option<&'a Text>,
+    /// The number of the module that is made.
+    module_number: Option<u32>,
     /// Of each limit, in their order: whether its option was given.
     given: [bool; 14],
     limits: Limits,
+    rounds: Option<u64>,
+    /// The file that gets the journal of the run.
+    recording: Option<&'a Text>,
 }
 
 impl<'a> Model for Arguments<'a> {
@@ -24,117 +29,123 @@ impl<'a> Model for Arguments<'a> {
 
     ghost Value = { Given };
 
-    ghost view = { λ a. record { file = option_map (λ f. f.now) a.file; given = a.given; numbers = a.limits } };
+    ghost view = { λ a. record {
+      file = option_map (λ f. f.now) a.file;
+      journal = option_map (λ f. f.now) a.journal;
+      module_number = a.module_number;
+      given = a.given;
+      numbers = a.limits;
+      rounds = a.rounds;
+      recording = option_map (λ f. f.now) a.recording;
+    } };
 }
 
 impl<'a> Arguments<'a> {
-    /// Before the first word: no file, and each limit by its default.
+    /// Before the first word: nothing was given, and each limit has its default.
     pub(crate) fn none() -> Arguments<'a>
         ensures { result ≡ no_arguments }
     {
         Arguments {
             file: None,
+            journal: None,
+            module_number: None,
             given: [false; 14],
             limits: Limits::defaults(),
+            rounds: None,
+            recording: None,
         }
     }
 
-    /// The file, where one was given.
-    pub(crate) fn file(&self) -> Option<&'a Text>
-        ensures { option_map (λ f. f.now) result ≡ self.now.file }
+    /// Whether an option was given.
+    pub(crate) fn is_given(&self, setting: Setting) -> bool
+        ensures { result ≡ is_given setting self.now }
     {
-        self.file
+        match setting {
+            Setting::Limit(limit) => self.given[limit.index()],
+            Setting::Rounds => self.rounds.is_some(),
+            Setting::Record => self.recording.is_some(),
+        }
     }
 
-    /// Whether the option of a limit was given.
-    fn is_given(&self, limit: Limit) -> bool
-        ensures { result ≡ is_given limit self.now }
+    /// The positional word of the command that wasn't given yet, the first such.
+    pub(crate) fn next_operand(&self, command: Command) -> Option<Operand>
+        ensures { result ≡ next_operand command self.now }
     {
-        self.given[limit.index()]
+        match (command, self.file, self.journal, self.module_number) {
+            (Command::Make, _, _, None) => Some(Operand::Number),
+            (Command::Make, _, _, Some(_)) => None,
+            (_, None, _, _) => Some(Operand::File),
+            (Command::Replay, Some(_), None, _) => Some(Operand::Journal),
+            _ => None,
+        }
     }
 
-    fn with_file(mut self, file: &'a Text) -> Arguments<'a>
+    pub(crate) fn with_file(mut self, file: &'a Text) -> Arguments<'a>
         ensures { result ≡ with_file file.now self.entry }
     {
         self.file = Some(file);
         self
     }
 
-    fn with_number(mut self, limit: Limit, number: u64) -> Arguments<'a>
+    pub(crate) fn with_journal(mut self, journal: &'a Text) -> Arguments<'a>
+        ensures { result ≡ with_journal journal.now self.entry }
+    {
+        self.journal = Some(journal);
+        self
+    }
+
+    pub(crate) fn with_module(mut self, number: u32) -> Arguments<'a>
+        ensures { result ≡ with_module number self.entry }
+    {
+        self.module_number = Some(number);
+        self
+    }
+
+    pub(crate) fn with_limit(mut self, limit: Limit, number: u64) -> Arguments<'a>
         requires { IsInRange limit number }
-        ensures { result ≡ with_number limit number self.entry }
+        ensures { result ≡ with_limit limit number self.entry }
     {
         self.given[limit.index()] = true;
         self.limits = self.limits.with(limit, number).unwrap();
         self
     }
 
-    /// The limits as they were given.
-    pub(crate) fn limits(&self) -> Limits
-        ensures { result ≡ self.now.numbers }
+    pub(crate) fn with_rounds(mut self, rounds: u64) -> Arguments<'a>
+        ensures { result ≡ with_rounds rounds self.entry }
     {
-        self.limits
+        self.rounds = Some(rounds);
+        self
     }
-}
 
-/// What was read up to a word: the arguments, and the limit whose number comes next.
-#[derive(Drop)]
-pub(crate) struct Progress<'a> {
-    pub(crate) arguments: Arguments<'a>,
-    pub(crate) awaited: Option<Limit>,
-}
+    pub(crate) fn with_recording(mut self, file: &'a Text) -> Arguments<'a>
+        ensures { result ≡ with_recording file.now self.entry }
+    {
+        self.recording = Some(file);
+        self
+    }
 
-/// Reads a number that is awaited.
-fn behind_number<'a>(limit: Limit, arguments: Arguments<'a>, word: &Text) -> Option<Progress<'a>>
-    ensures some { IfSome result (λ next. (command : Command) → GoesOn command (Some limit) arguments.entry word.now next.awaited next.arguments) }
-    ensures none { IfNone result ((command : Command) → GoesNowhere command (Some limit) arguments.entry word.now) }
-{
-    let number = number_of(word, limit)?;
-    Some(Progress {
-        arguments: arguments.with_number(limit, number),
-        awaited: None,
-    })
-}
-
-/// Reads the file, or an option.
-fn behind_argument<'a>(
-    command: Command,
-    arguments: Arguments<'a>,
-    word: &'a Text,
-) -> Option<Progress<'a>>
-    ensures some { IfSome result (λ next. GoesOn command None arguments.entry word.now next.awaited next.arguments) }
-    ensures none { IfNone result (GoesNowhere command None arguments.entry word.now) }
-{
-    if is_name(word) {
-        if arguments.file().is_some() {
-            return None;
+    /// The order that a command and these arguments are, where none of its positional words is missing.
+    pub(crate) fn order(self, command: Command) -> Option<Order<'a>>
+        ensures { option_map asked_by result ≡ asked_of command self.entry }
+    {
+        let limits = self.limits;
+        match (command, self.file, self.journal, self.module_number) {
+            (Command::Make, _, _, Some(number)) => Some(Order::Make(number)),
+            (Command::Run, Some(file), _, _) => Some(Order::Run {
+                file,
+                limits,
+                rounds: self.rounds,
+                journal: self.recording,
+            }),
+            (Command::Check, Some(file), _, _) => Some(Order::Check { file, limits }),
+            (Command::List, Some(file), _, _) => Some(Order::List { file, limits }),
+            (Command::Print, Some(file), _, _) => Some(Order::Print { file, limits }),
+            (Command::Replay, Some(file), Some(journal), _) => Some(Order::Replay {
+                file,
+                journal,
+                limits,
+            }),
+            _ => None,
         }
-        return Some(Progress {
-            arguments: arguments.with_file(word),
-            awaited: None,
-        });
-    }
-    let limit = option_of(word)?;
-    if !command.has(limit) || arguments.is_given(limit) {
-        return None;
-    }
-    Some(Progress {
-        arguments,
-        awaited: Some(limit),
-    })
-}
-
-/// Reads one word behind a command, if it can stand there.
-pub(crate) fn behind_word<'a>(
-    command: Command,
-    before: Progress<'a>,
-    word: &'a Text,
-) -> Option<Progress<'a>>
-    ensures some { IfSome result (λ next. GoesOn command before.entry.awaited before.entry.arguments word.now next.awaited next.arguments) }
-    ensures none { IfNone result (GoesNowhere command before.entry.awaited before.entry.arguments word.now) }
-{
-    match before.awaited {
-        Some(limit) => behind_number(limit, before.arguments, word),
-        None => behind_argument(command, before.arguments, word),
     }
 }

@@ -36,6 +36,14 @@ fn main(rt: HostRuntime) -> ExitCode {
     };
     let mut files = HostFiles::new(&rt);
     let out = HostSink::new(rt.stdout());
-    let ended = inko_main(rt.alloc(), &words, &mut files, out, &mut err, &OpenGate);
+    let ended = inko_main(
+        &rt,
+        rt.alloc(),
+        &words,
+        &mut files,
+        out,
+        &mut err,
+        &OpenGate,
+    );
     ExitCode::from(ended.status)
 }

@@ -1,8 +1,8 @@
-use Rattle.std.proofs.Common.{◌≡◌, Some, sym, ap, ◌∙◌, option_map, None, take, ◌++◌, ◌∷◌, []}
+use Rattle.std.proofs.Common.{◌≡◌, Some, sym, ap, ◌∙◌, None, take, ◌++◌, ◌∷◌, [], option_map}
 use Rattle.std.proofs.lemmas.List.{take_more}
-use Rattle.ink_words.proofs.WordLemmas.{reaches_next, wrong_word, words_missing, is_behind, only_behind}
+use Rattle.ink_words.specs.Commands.{asked_by}
+use Rattle.ink_words.proofs.WordLemmas.{reaches_next, wrong_word, value_missing, operand_missing, is_behind, only_behind}
 use Rattle.ink_words.proofs.order.behind_command.Goals as goal
-use Rattle.ink_words.proofs.order.behind_command.Goals.{in_default-2-via-in-None+in_default, in_default-2-via-in_default}
 
 pub returns-in_default-clause-wrong : goal.returns-in_default-clause-wrong
 returns-in_default-clause-wrong c =
@@ -15,17 +15,22 @@ loop-right-preserved c =
     reaches_next c.args.command _ _ c.index-words-right.result _ _ _ _ c.loop-right.invariant c.in-Some.ensures.some
     (take_more c.args.words.now c.loop-right.right c.index-words-right.result c.loop-right-test.true ∙ ap (λ w. take c.loop-right.right c.args.words.now ++ w ∷ []) (sym c.index-words-right.is))
 
-pub returns-in-None-Some-clause-fits : goal.returns-in-None-Some-clause-fits
-returns-in-None-Some-clause-fits c = rw c.limits.ensures
-    (is_behind c.args.command c.args.words.now c.loop-right.right c.loop-right.progress.arguments c.in-None-Some.file.now c.loop-right-test.false (rw c.in-None-Some.is-0 at c.loop-right.invariant)
-    (sym c.file.ensures ∙ ap (option_map (λ f. f.now)) c.in-None-Some.is-1))
+pub returns-in-Some-awaited-clause-wrong : goal.returns-in-Some-awaited-clause-wrong
+returns-in-Some-awaited-clause-wrong c =
+    value_missing c.args.command c.args.words.now c.loop-right.right c.in-Some-awaited._setting c.loop-right.progress.arguments c.loop-right-test.false
+    (rw c.in-Some-awaited.is at c.loop-right.invariant)
 
-pub returns-in-None-Some-clause-only : goal.returns-in-None-Some-clause-only
-returns-in-None-Some-clause-only c = λ file limits behind. rw c.limits.ensures
-    (only_behind c.args.command c.args.words.now c.loop-right.right c.loop-right.progress.arguments c.in-None-Some.file.now file limits c.loop-right-test.false (rw c.in-None-Some.is-0 at c.loop-right.invariant)
-    (sym c.file.ensures ∙ ap (option_map (λ f. f.now)) c.in-None-Some.is-1) behind)
+pub returns-in-Some-order-clause-fits : goal.returns-in-Some-order-clause-fits
+returns-in-Some-order-clause-fits c =
+    is_behind c.args.command c.args.words.now c.loop-right.right c.loop-right.progress.arguments _ c.loop-right-test.false
+    (rw c.in-None.is at c.loop-right.invariant) (sym c.order.ensures ∙ ap (option_map asked_by) c.in-Some-order.is)
 
-pub returns-in_default-2-clause-wrong : goal.returns-in_default-2-clause-wrong
-returns-in_default-2-clause-wrong c =
-    words_missing c.args.command c.args.words.now c.loop-right.right _ _ c.loop-right-test.false c.loop-right.invariant
-    (λ file none some. elim c.in_default-2.branch [ in_default-2-via-in-None+in_default w ↦ (let none : None ≡ Some file = sym (ap (option_map (λ f. f.now)) w.in_default-2.is-1) ∙ c.file.ensures ∙ some in cc) | in_default-2-via-in_default w ↦ (let other = w.in_default-2.is-0 in cc) ])
+pub returns-in-Some-order-clause-only : goal.returns-in-Some-order-clause-only
+returns-in-Some-order-clause-only c = λ other.
+    only_behind c.args.command c.args.words.now c.loop-right.right c.loop-right.progress.arguments _ other c.loop-right-test.false
+    (rw c.in-None.is at c.loop-right.invariant) (sym c.order.ensures ∙ ap (option_map asked_by) c.in-Some-order.is)
+
+pub returns-in-None-order-clause-wrong : goal.returns-in-None-order-clause-wrong
+returns-in-None-order-clause-wrong c =
+    operand_missing c.args.command c.args.words.now c.loop-right.right c.loop-right.progress.arguments c.loop-right-test.false
+    (rw c.in-None.is at c.loop-right.invariant) (sym c.order.ensures ∙ ap (option_map asked_by) c.in-None-order.is)

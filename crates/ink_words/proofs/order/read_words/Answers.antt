@@ -13,5 +13,5 @@ returns-in-Err-clause-wrong c =
     rw c.in-Some.ensures.cases.0 (wrong_behind c.in-Some-of.command c.in-Some.first.now c.in-Some.words.now c.in-Err.wrong.right c.in-Some-of.ensures.some c.in-Err.ensures.wrong)
 
 pub returns-in-Ok-clause-only : goal.returns-in-Ok-clause-only
-returns-in-Ok-clause-only c = λ other. rw (c.in-Some.ensures.cases.0, c.order_of.ensures)
-    (only_order c.in-Some-of.command c.in-Some.first.now c.in-Some.words.now c.in-Ok.target.file.now c.in-Ok.target.limits other c.in-Some-of.ensures.some c.in-Ok.ensures.only)
+returns-in-Ok-clause-only c = λ other. rw c.in-Some.ensures.cases.0
+    (only_order c.in-Some-of.command c.in-Some.first.now c.in-Some.words.now _ other c.in-Some-of.ensures.some c.in-Ok.ensures.only)

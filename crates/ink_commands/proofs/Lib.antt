@@ -1,0 +1,4 @@
+pub mod Lowered
+pub mod Replays
+pub mod Verdicts
+pub mod Written

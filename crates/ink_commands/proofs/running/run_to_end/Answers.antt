@@ -1,0 +1,8 @@
+use Rattle.std.proofs.Common.{sym}
+use Rattle.ink_commands.proofs.Written.{wrote_as}
+use Rattle.ink_commands.proofs.running.run_to_end.Goals as goal
+
+pub returns-clause-wrote : goal.returns-clause-wrote
+returns-clause-wrote g c first below written =
+    rw (c.stopped.ensures.journal, c.stopped.ensures.out, sym c.run_freely-cause.ensures.limits)
+    (wrote_as _ _ c.args.code.now _ _ _ c.stopped.ensures.cause (c.run_freely-cause.ensures.wrote first below written))
