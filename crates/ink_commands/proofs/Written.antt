@@ -13,13 +13,21 @@ use Rattle.ink_post.specs.Worlds.{Stands}
 use Rattle.ink_post.specs.declared.answer.End.{End}
 use Rattle.ink_post.specs.declared.answer.End.TheVariants as end
 use Rattle.ink_post.specs.declared.post.Post.{Post}
+use Rattle.ink_replay.specs.Ends.{StopsAt}
+use Rattle.ink_replay.specs.Stops.{UnlessWrong as UnlessIt}
+use Rattle.ink_replay.specs.declared.replaying.ReplayStop.{ReplayStop}
+use Rattle.ink_replay.specs.declared.replaying.ReplayStop.TheVariants as replay
+use Rattle.ink_rounds.specs.Homes.{LeavesOn}
+use Rattle.ink_rounds.specs.Stops.{stop_in, UnlessWrong as Unless}
+use Rattle.ink_rounds.specs.declared.running.Stop.{Stop}
+use Rattle.ink_rounds.specs.declared.running.Stop.TheVariants as rounds
 use Rattle.ink_run.specs.Sinks as run
 use Rattle.ink_run.specs.Written.{GotBy, IsWritten, IsCutIn, KeepsWritten}
 use Rattle.ink_statuses.specs.Readings.{is_held}
 use Rattle.ink_worlds.specs.declared.halt.Halt.{Halt}
 use Rattle.ink_worlds.specs.declared.halt.Halt.TheVariants as halt
 use Rattle.ink_worlds.specs.declared.status.Status.{Status}
-use Rattle.ink_commands.specs.Runs.{IsPanic, IsUncut, RanCode, Replays, ReplaysCut, StopsAs, StopsAtOnce, StillReplays, StopsRun, WritesUpTo, Wrote, WroteAll, WroteFrom, cause_by, seen}
+use Rattle.ink_commands.specs.Runs.{IsPanic, IsUncut, RanCode, Replays, ReplaysCut, ReplaysSome, WroteReplay, WroteRounds, replay_cause, rounds_cause, StopsAs, StopsAtOnce, StillReplays, StopsReplay, StopsRun, WritesUpTo, Wrote, WroteAll, WroteFrom, cause_by, seen}
 
 pub stands_written : (code : Code) (post : Post) (before after : run.SinkState) → IsWritten code post before after → Stands code post
 stands_written code post before after written = (written.output, written.stands)
@@ -165,6 +173,12 @@ stops_as stopped cause is stops = elim is [
   | inr memory ↦ (let here : StopsRun OutOfMemory = tt in subst StopsRun (sym memory.0) here)
 ]
 
+pub stops_replay_as : (stopped cause : Cause) → StopsAs stopped cause → StopsReplay stopped → StopsReplay cause
+stops_replay_as stopped cause is stops = elim is [
+  | inl same ↦ subst StopsReplay (sym same) stops
+  | inr memory ↦ (let here : StopsReplay OutOfMemory = tt in subst StopsReplay (sym memory.0) here)
+]
+
 -- a run that goes on
 
 -- what went out is the output of the journal still, and the world is ahead of it
@@ -220,17 +234,131 @@ pub end_wrote : (cause : Cause) (code : Code) (post : Post) (after : run.SinkSta
 end_wrote cause code post after found is same = λ first below written.
     subst (λ (c : Cause). WroteFrom c code post.limits post.journal.entries first after) (sym same) (ended code post first after found is below written)
 
--- a code that ran
+-- a run in rounds, or a replay
 
-pub ran_free : (code : Code) (limits : List ℕ) (rounds : Option ℕ) (cause : Cause) (journal : List ℕ) (out : Change SinkState) → rounds ≡ None
-    → StopsRun cause → Wrote cause code limits journal out → RanCode code limits rounds cause journal out
-ran_free code limits None cause journal out none stops wrote = record { stops = stops; wrote = wrote }
-ran_free code limits (Some rounds) cause journal out none stops wrote = never_some rounds none
+stop_end : (budget : ℕ) (end : Option End) (found : End) → rounds.Ended found ≡ stop_in budget end → Some found ≡ end
+stop_end budget None found is = absurd (cc)
+stop_end budget (Some end) found is = cc
 
-pub ran_rounds : (code : Code) (limits : List ℕ) (rounds : Option ℕ) (count : ℕ) (cause : Cause) (journal : List ℕ) (out : Change SinkState) → rounds ≡ Some count
-    → StopsRun cause → RanCode code limits rounds cause journal out
-ran_rounds code limits None count cause journal out some stops = never_some count (sym some)
-ran_rounds code limits (Some rounds) count cause journal out some stops = record { stops = stops; wrote = tt }
+no_end : (budget limit : ℕ) (end : Option End) → rounds.RoundLimit limit ≡ stop_in budget end → None ≡ end
+no_end budget limit None is = refl
+no_end budget limit (Some end) is = absurd (cc)
+
+-- where a sink got what the journal of a world says, whole or cut
+pub some_written : (code : Code) (post : Post) (first after : run.SinkState) → first.faults < greatest_count → IsWritten code post first after
+    → ReplaysSome code post.limits post.journal.entries (record { before = seen first; after = seen after })
+some_written code post first after below written = by_halt post.halt refl
+  where
+    by_halt : (by : Option Halt) → post.halt ≡ by → ReplaysSome code post.limits post.journal.entries (record { before = seen first; after = seen after })
+    by_halt None is = (let uncut : IsUncut None = tt in inl (whole code post first after (subst IsUncut (sym is) uncut) written))
+    by_halt (Some (halt.Panicked process)) is = (let uncut : IsUncut (Some (halt.Panicked process)) = tt in inl (whole code post first after (subst IsUncut (sym is) uncut) written))
+    by_halt (Some halt.SinkFailed) is = inr (cut code post first after is below written)
+    by_halt (Some (halt.Events process)) is = (let uncut : IsUncut (Some (halt.Events process)) = tt in inl (whole code post first after (subst IsUncut (sym is) uncut) written))
+    by_halt (Some (halt.Local process steps)) is = (let uncut : IsUncut (Some (halt.Local process steps)) = tt in inl (whole code post first after (subst IsUncut (sym is) uncut) written))
+
+-- a world further on, with the limits of before, that ended
+ended_on : (code : Code) (old new : Post) (first before after : run.SinkState) (found : End) → first.faults < greatest_count
+    → Some found ≡ end_in new.halt new.wrong new.statuses.items → KeepsWritten code old new before after → new.limits ≡ old.limits
+    → IsWritten code old first before → WroteFrom (cause_by found) code old.limits new.journal.entries first after
+ended_on code old new first before after found below is keeps limits written =
+    subst (λ (l : List ℕ). WroteFrom (cause_by found) code l new.journal.entries first after) limits
+    (ended code new first after found is below (keeps first written))
+
+-- what a run in rounds wrote, by its stop
+rounds_wrote : (code : Code) (old new : Post) (first before after : run.SinkState) (budget : ℕ) (stop : Stop) → first.faults < greatest_count
+    → Unless stop (stop ≡ stop_in budget (end_in new.halt new.wrong new.statuses.items)) → Unless stop (KeepsWritten code old new before after)
+    → Unless stop (new.limits ≡ old.limits) → IsWritten code old first before
+    → WroteRounds (rounds_cause stop) code old.limits new.journal.entries (record { before = seen first; after = seen after })
+rounds_wrote code old new first before after budget (rounds.Ended (end.Wrong process)) below is keeps limits written = tt
+rounds_wrote code old new first before after budget (rounds.Ended end.Quiet) below is keeps limits written =
+    ended_on code old new first before after end.Quiet below (stop_end budget _ end.Quiet is) keeps limits written
+rounds_wrote code old new first before after budget (rounds.Ended (end.Waiting process)) below is keeps limits written =
+    ended_on code old new first before after (end.Waiting process) below (stop_end budget _ (end.Waiting process) is) keeps limits written
+rounds_wrote code old new first before after budget (rounds.Ended (end.Panicked process)) below is keeps limits written =
+    ended_on code old new first before after (end.Panicked process) below (stop_end budget _ (end.Panicked process) is) keeps limits written
+rounds_wrote code old new first before after budget (rounds.Ended end.SinkFailed) below is keeps limits written =
+    ended_on code old new first before after end.SinkFailed below (stop_end budget _ end.SinkFailed is) keeps limits written
+rounds_wrote code old new first before after budget (rounds.Ended (end.Events process)) below is keeps limits written =
+    ended_on code old new first before after (end.Events process) below (stop_end budget _ (end.Events process) is) keeps limits written
+rounds_wrote code old new first before after budget (rounds.Ended (end.Local process steps)) below is keeps limits written =
+    ended_on code old new first before after (end.Local process steps) below (stop_end budget _ (end.Local process steps) is) keeps limits written
+rounds_wrote code old new first before after budget (rounds.RoundLimit limit) below is keeps limits written =
+    subst (λ (l : List ℕ). Replays code l new.journal.entries (record { before = seen first; after = seen after })) limits
+    (whole code new first after (goes_uncut new (no_end budget limit _ is)) (keeps first written))
+
+-- and what a replay did
+replay_wrote : (code : Code) (limits : List ℕ) (post : Post) (first after : run.SinkState) (stop : ReplayStop) → first.faults < greatest_count
+    → StopsAt code stop post → UnlessIt stop (IsWritten code post first after) → UnlessIt stop (post.limits ≡ limits)
+    → WroteReplay (replay_cause stop) code limits post.journal.entries (record { before = seen first; after = seen after })
+replay_wrote code limits post first after (replay.Ended (end.Wrong process)) below is written same = tt
+replay_wrote code limits post first after (replay.Ended end.Quiet) below is written same =
+    subst (λ (l : List ℕ). WroteFrom (cause_by end.Quiet) code l post.journal.entries first after) same (ended code post first after end.Quiet (sym is) below written)
+replay_wrote code limits post first after (replay.Ended (end.Waiting process)) below is written same =
+    subst (λ (l : List ℕ). WroteFrom (cause_by (end.Waiting process)) code l post.journal.entries first after) same (ended code post first after (end.Waiting process) (sym is) below written)
+replay_wrote code limits post first after (replay.Ended (end.Panicked process)) below is written same =
+    subst (λ (l : List ℕ). WroteFrom (cause_by (end.Panicked process)) code l post.journal.entries first after) same (ended code post first after (end.Panicked process) (sym is) below written)
+replay_wrote code limits post first after (replay.Ended end.SinkFailed) below is written same =
+    subst (λ (l : List ℕ). WroteFrom (cause_by end.SinkFailed) code l post.journal.entries first after) same (ended code post first after end.SinkFailed (sym is) below written)
+replay_wrote code limits post first after (replay.Ended (end.Events process)) below is written same =
+    subst (λ (l : List ℕ). WroteFrom (cause_by (end.Events process)) code l post.journal.entries first after) same (ended code post first after (end.Events process) (sym is) below written)
+replay_wrote code limits post first after (replay.Ended (end.Local process steps)) below is written same =
+    subst (λ (l : List ℕ). WroteFrom (cause_by (end.Local process steps)) code l post.journal.entries first after) same (ended code post first after (end.Local process steps) (sym is) below written)
+replay_wrote code limits post first after (replay.JournalEnds process) below is written same =
+    subst (λ (l : List ℕ). ReplaysSome code l post.journal.entries (record { before = seen first; after = seen after })) same (some_written code post first after below written)
+replay_wrote code limits post first after (replay.BadEntry entry) below is written same =
+    subst (λ (l : List ℕ). ReplaysSome code l post.journal.entries (record { before = seen first; after = seen after })) same (some_written code post first after below written)
+
+-- want of memory for a report in place of a panic
+panic_rounds : (stopped : Cause) (code : Code) (limits journal : List ℕ) (out : Change SinkState) → IsPanic stopped → WroteRounds stopped code limits journal out
+    → WroteRounds OutOfMemory code limits journal out
+panic_rounds (Panicked process) code limits journal out panic wrote = inl wrote
+panic_rounds cause code limits journal out panic wrote = absurd panic
+
+pub rounds_as : (stopped cause : Cause) (code : Code) (limits journal : List ℕ) (out : Change SinkState) → StopsAs stopped cause
+    → WroteRounds stopped code limits journal out → WroteRounds cause code limits journal out
+rounds_as stopped cause code limits journal out is wrote = elim is [
+  | inl same ↦ subst (λ (c : Cause). WroteRounds c code limits journal out) (sym same) wrote
+  | inr memory ↦ subst (λ (c : Cause). WroteRounds c code limits journal out) (sym memory.0) (panic_rounds stopped code limits journal out memory.1 wrote)
+]
+
+pub replay_as : (stopped cause : Cause) (code : Code) (limits journal : List ℕ) (out : Change SinkState) → StopsAs stopped cause
+    → WroteReplay stopped code limits journal out → WroteReplay cause code limits journal out
+replay_as stopped cause code limits journal out is wrote = elim is [
+  | inl same ↦ subst (λ (c : Cause). WroteReplay c code limits journal out) (sym same) wrote
+  | inr memory ↦ (let none : WroteReplay OutOfMemory code limits journal out = tt in subst (λ (c : Cause). WroteReplay c code limits journal out) (sym memory.0) none)
+]
+
+-- what a run in rounds came to that stopped, and one that had no memory
+pub rounds_stopped : (code : Code) (old new : Post) (first before after : run.SinkState) (budget : ℕ) (stop : Stop) (stopped cause : Cause) (journal : List ℕ)
+    → StopsAs stopped cause → stopped ≡ rounds_cause stop → journal ≡ new.journal.entries → first.faults < greatest_count
+    → Unless stop (stop ≡ stop_in budget (end_in new.halt new.wrong new.statuses.items)) → Unless stop (KeepsWritten code old new before after)
+    → Unless stop (new.limits ≡ old.limits) → IsWritten code old first before
+    → WroteRounds cause code old.limits journal (record { before = seen first; after = seen after })
+rounds_stopped code old new first before after budget stop stopped cause journal taken is same below ends keeps limits written =
+    let O : Change SinkState = record { before = seen first; after = seen after } in
+    let here = rounds_wrote code old new first before after budget stop below ends keeps limits written in
+    let stops : WroteRounds stopped code old.limits new.journal.entries O = subst (λ (c : Cause). WroteRounds c code old.limits new.journal.entries O) (sym is) here in
+    subst (λ (j : List ℕ). WroteRounds cause code old.limits j O) (sym same) (rounds_as stopped cause code old.limits new.journal.entries O taken stops)
+
+pub rounds_failed : (code : Code) (old new : Post) (first before after : run.SinkState) (cause : Cause) (journal : List ℕ)
+    → StopsAs OutOfMemory cause → journal ≡ new.journal.entries → first.faults < greatest_count → LeavesOn code old new before after
+    → IsWritten code old first before → WroteRounds cause code old.limits journal (record { before = seen first; after = seen after })
+rounds_failed code old new first before after cause journal taken same below leaves written =
+    let O : Change SinkState = record { before = seen first; after = seen after } in
+    let here : WroteRounds OutOfMemory code new.limits new.journal.entries O = some_written code new first after below (leaves.written first written) in
+    let right : WroteRounds OutOfMemory code old.limits new.journal.entries O = subst (λ (l : List ℕ). WroteRounds OutOfMemory code l new.journal.entries O) leaves.limits here in
+    subst (λ (j : List ℕ). WroteRounds cause code old.limits j O) (sym same) (rounds_as OutOfMemory cause code old.limits new.journal.entries O taken right)
+
+-- and what a replay came to that stopped
+pub replay_stopped : (code : Code) (limits : List ℕ) (post : Post) (first after : run.SinkState) (stop : ReplayStop) (stopped cause : Cause) (journal : List ℕ)
+    → StopsAs stopped cause → stopped ≡ replay_cause stop → journal ≡ post.journal.entries → first.faults < greatest_count
+    → StopsAt code stop post → UnlessIt stop (IsWritten code post first after) → UnlessIt stop (post.limits ≡ limits)
+    → WroteReplay cause code limits journal (record { before = seen first; after = seen after })
+replay_stopped code limits post first after stop stopped cause journal taken is same below ends written right =
+    let O : Change SinkState = record { before = seen first; after = seen after } in
+    let here = replay_wrote code limits post first after stop below ends written right in
+    let stops : WroteReplay stopped code limits post.journal.entries O = subst (λ (c : Cause). WroteReplay c code limits post.journal.entries O) (sym is) here in
+    subst (λ (j : List ℕ). WroteReplay cause code limits j O) (sym same) (replay_as stopped cause code limits post.journal.entries O taken stops)
 
 -- nothing was run
 
@@ -248,4 +376,4 @@ ran_not code limits rounds cause journal out memory none same =
     by_rounds : (code : Code) (limits : List ℕ) (rounds : Option ℕ) (journal : List ℕ) (out : Change SinkState) → Replays code limits journal out
         → RanCode code limits rounds OutOfMemory journal out
     by_rounds code limits None journal out replays = record { stops = tt; wrote = replays }
-    by_rounds code limits (Some rounds) journal out replays = record { stops = tt; wrote = tt }
+    by_rounds code limits (Some rounds) journal out replays = record { stops = tt; wrote = inl replays }

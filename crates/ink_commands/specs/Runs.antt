@@ -12,6 +12,10 @@ use Rattle.ink_causes.specs.declared.cause.Cause.TheVariants.{Quiet, WriteFault,
 use Rattle.ink_post.specs.declared.answer.End.{End}
 use Rattle.ink_post.specs.declared.answer.End.TheVariants as end
 use Rattle.ink_post.specs.declared.post.Post.{Post}
+use Rattle.ink_replay.specs.declared.replaying.ReplayStop.{ReplayStop}
+use Rattle.ink_replay.specs.declared.replaying.ReplayStop.TheVariants as replay
+use Rattle.ink_rounds.specs.declared.running.Stop.{Stop}
+use Rattle.ink_rounds.specs.declared.running.Stop.TheVariants as rounds
 use Rattle.ink_run.specs.Sinks as run
 use Rattle.ink_run.specs.Written.{IsWritten}
 use Rattle.ink_worlds.specs.declared.halt.Halt.{Halt}
@@ -115,10 +119,41 @@ IsPanic cause = ⊥
 abbrev pub StopsAs : Cause → Cause → Type 0
 StopsAs stopped cause = (cause ≡ stopped) ⊎ ((cause ≡ OutOfMemory) × IsPanic stopped)
 
--- what a code wrote that ran freely; of one that ran in rounds it isn't claimed
+-- the cause that the stop of a run in rounds is
+abbrev pub rounds_cause : Stop → Cause
+rounds_cause (rounds.Ended end) = cause_by end
+rounds_cause (rounds.RoundLimit budget) = RoundLimit budget
+
+-- the cause that the stop of a replay is
+abbrev pub replay_cause : ReplayStop → Cause
+replay_cause (replay.Ended end) = cause_by end
+replay_cause (replay.JournalEnds process) = JournalEnds process
+replay_cause (replay.BadEntry entry) = BadEntry entry
+
+-- the output of the journal's turns went out, whole or cut
+abbrev pub ReplaysSome : Code → List ℕ → List ℕ → Change SinkState → Type 0
+ReplaysSome code limits journal out = Replays code limits journal out ⊎ ReplaysCut code limits journal out
+
+-- What a run in rounds wrote that stopped for this cause. Without memory the output may have failed in the same round. Of a
+-- run whose code is wrong it isn't claimed.
+abbrev pub WroteRounds : Cause → Code → List ℕ → List ℕ → Change SinkState → Type 0
+WroteRounds (Wrong process) code limits journal out = Unit {0}
+WroteRounds OutOfMemory code limits journal out = ReplaysSome code limits journal out
+WroteRounds cause code limits journal out = Wrote cause code limits journal out
+
+-- What a replay wrote. Where the journal ended, or an entry was bad, it isn't said that the output didn't fail before;
+-- without memory, or where the code is wrong, nothing is.
+abbrev pub WroteReplay : Cause → Code → List ℕ → List ℕ → Change SinkState → Type 0
+WroteReplay (Wrong process) code limits journal out = Unit {0}
+WroteReplay OutOfMemory code limits journal out = Unit {0}
+WroteReplay (JournalEnds process) code limits journal out = ReplaysSome code limits journal out
+WroteReplay (BadEntry entry) code limits journal out = ReplaysSome code limits journal out
+WroteReplay cause code limits journal out = Wrote cause code limits journal out
+
+-- what a code wrote that ran, in rounds where a number of them is given
 abbrev pub WroteIn : Option ℕ → Cause → Code → List ℕ → List ℕ → Change SinkState → Type 0
 WroteIn None cause code limits journal out = Wrote cause code limits journal out
-WroteIn (Some rounds) cause code limits journal out = Unit {0}
+WroteIn (Some rounds) cause code limits journal out = WroteRounds cause code limits journal out
 
 -- what came of a code that ran, in rounds where a number of them is given
 pub record RanCode (code : Code) (limits : List ℕ) (rounds : Option ℕ) (cause : Cause) (journal : List ℕ) (out : Change SinkState) : Type 0 where
@@ -128,3 +163,4 @@ pub record RanCode (code : Code) (limits : List ℕ) (rounds : Option ℕ) (caus
 -- what came of a code that was replayed by these entries
 pub record ReplayedCode (code : Code) (limits entries : List ℕ) (cause : Cause) (journal : List ℕ) (out : Change SinkState) : Type 0 where
   pub stops : StopsReplay cause
+  pub wrote : WroteReplay cause code limits journal out

@@ -2,9 +2,10 @@
 ghost use Rattle.std.specs.Prelude.{◌≡◌, ◌<◌, None, IfSome, IsSome};
 ghost use Rattle.ink_causes.specs.Devices.{sink_of};
 ghost use Rattle.ink_code.specs.declared.code.Code.{Code as OneCode};
-ghost use Rattle.ink_commands.specs.Runs.{IsUncut, RanCode, ReplayedCode, StillReplays, StopsAs, StopsAtOnce, StopsReplay, StopsRun, WritesUpTo, WroteAll, WroteFrom, cause_by};
+ghost use Rattle.ink_commands.specs.Runs.{IsUncut, RanCode, ReplayedCode, StillReplays, StopsAs, StopsAtOnce, StopsReplay, StopsRun, WritesUpTo, WroteAll, WroteFrom, WroteRounds, cause_by, replay_cause, rounds_cause, seen};
 ghost use Rattle.ink_devices.specs.Outside.{greatest_count};
 ghost use Rattle.ink_post.specs.Worlds.{Stands};
+ghost use Rattle.ink_rounds.specs.Faults.{world_in};
 ghost use Rattle.ink_run.specs.Sinks.{SinkState as SinkAt, sink_of as sink_at};
 ghost use Rattle.ink_run.specs.Written.{IsWritten, KeepsWritten};
 ghost use Rattle.ink_run.specs.declared.applied.BeginFault.TheVariants as begin;
@@ -39,7 +40,8 @@ fn cause_of(end: End) -> Cause
 
 /// The cause that a run in rounds stopped for.
 fn cause_of_rounds(stop: Stop) -> Cause
-    ensures { StopsRun result }
+    ensures is { result ≡ rounds_cause stop }
+    ensures stops { StopsRun result }
 {
     match stop {
         Stop::Ended(end) => cause_of(end),
@@ -49,7 +51,8 @@ fn cause_of_rounds(stop: Stop) -> Cause
 
 /// The cause that a replay stopped for.
 fn cause_of_replay(stop: ReplayStop) -> Cause
-    ensures { StopsReplay result }
+    ensures is { result ≡ replay_cause stop }
+    ensures stops { StopsReplay result }
 {
     match stop {
         ReplayStop::Ended(end) => cause_of(end),
@@ -178,6 +181,16 @@ fn run_to_end<K: Sink + Drop>(alloc: Global, code: &Code, mut world: World<K>) -
     stopped(alloc, code, world, cause)
 }
 
+/// The world, which comes back from rounds that had no memory.
+fn world_back<K: Sink + Drop>(fault: RoundFault<K>) -> World<K>
+    ensures post { result.post ≡ (world_in fault).post }
+    ensures sink { result.sink ≡ (world_in fault).sink }
+{
+    match fault {
+        RoundFault::OutOfMemory(world) => world,
+    }
+}
+
 /// Runs a code in rounds, at most so many.
 fn run_in_rounds<R: Threads + Sync, K: Sink + Drop>(
     rt: &R,
@@ -187,11 +200,12 @@ fn run_in_rounds<R: Threads + Sync, K: Sink + Drop>(
     rounds: u64,
 ) -> Outcome<K>
     requires { Stands code.now world.post }
-    ensures { StopsRun result.cause }
+    ensures stops { StopsRun result.cause }
+    ensures wrote { (first : SinkAt) → first.faults < greatest_count → IsWritten code.now world.post first (sink_at K.contents K.faults world.sink) → WroteRounds result.cause code.now world.post.limits result.journal.entries (record { before = seen first; after = seen (sink_at K.contents K.faults result.out) }) }
 {
     let workers = world.limits().get(Limit::Workers) as u32;
     match run_rounds(rt, alloc, code, world, workers, rounds) {
-        Err(RoundFault::OutOfMemory(world)) => stopped(alloc, code, world, Cause::OutOfMemory),
+        Err(fault) => stopped(alloc, code, world_back(fault), Cause::OutOfMemory),
         Ok(ran) => stopped(alloc, code, ran.world, cause_of_rounds(ran.stop)),
     }
 }
@@ -235,6 +249,7 @@ pub fn replay_code<K: Sink + Drop>(
     journal: &Journal,
     out: K,
 ) -> Outcome<K>
+    requires { K.faults out < greatest_count }
     ensures { ReplayedCode code.now limits.now journal.now.entries result.cause result.journal.entries (record { before = sink_of K.contents K.faults out; after = sink_of K.contents K.faults result.out }) }
 {
     match replay(alloc, code, *limits, journal, out) {

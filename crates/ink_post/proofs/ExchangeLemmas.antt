@@ -1,15 +1,10 @@
 -- What was taken and put is there and has room, since the action can be made.
-use Rattle.std.proofs.Common.{◌≡◌, ℕ, zero, suc, ◌≤◌, Bool, true, false, cond, Option, None, Some, List, [], ◌∷◌, set, refl, ap, sym, ◌∙◌, subst, arith}
-use Rattle.std.specs.Prelude.{nat_le, IfSome}
-use Rattle.std.specs.Option.{option_map_or}
-use Rattle.std.proofs.lemmas.Bool.Decides.{nat_tests}
+use Rattle.std.proofs.Common.{◌≡◌, ℕ, zero, suc, Bool, true, false, cond, Option, None, Some, List, [], ◌∷◌, set, refl, ap, sym, ◌∙◌, subst}
+use Rattle.std.specs.Prelude.{IfSome}
 use Rattle.ink_base.specs.declared.future.FutureState.{FutureState}
-use Rattle.ink_base.specs.declared.future.FutureState.TheVariants.{Broken, Set, Taken}
-use Rattle.ink_base.specs.declared.limits.Limit.TheVariants as limit
-use Rattle.ink_base.specs.Actions.{has_some, reached}
-use Rattle.ink_base.specs.Futures.{Futures, after_get, after_value_back, change_at, changed_future, is_broken}
-use Rattle.ink_base.specs.Limits.{limit_of}
-use Rattle.ink_base.specs.Messages.{Mail, Mailbox, Message, after_put_back, after_send, after_take, first_of, front_of, put_in_box, send_to_box, take_from_box, unread_in, unread_of, without_first}
+use Rattle.ink_base.specs.declared.future.FutureState.TheVariants.{Set, Taken}
+use Rattle.ink_base.specs.Futures.{Futures, after_get, after_value_back, change_at, changed_future}
+use Rattle.ink_base.specs.Messages.{Mail, Mailbox, Message, after_put_back, after_take, first_of, front_of, put_in_box, take_from_box, unread_in, without_first}
 use Rattle.ink_base.specs.Numbered.{numbered, set_numbered}
 use Rattle.ink_base.specs.Objects.{Objects}
 use Rattle.ink_code.specs.Runs.{held_by}
@@ -17,33 +12,9 @@ use Rattle.ink_law_turns.proofs.Numbering.{numbered-set_same, set_numbered-same,
 use Rattle.ink_parcel.specs.Parts.{AreApartFrom}
 use Rattle.ink_code.specs.Trees.{Parcel}
 
-front_some : (messages : List (Message Parcel)) → has_some messages ≡ true → first_of messages ≡ None → ⊥
-front_some [] some none = absurd (cc)
-front_some (message ∷ others) some none = absurd (cc)
-
-pub has_front : (mail : Mail Parcel) (process : ℕ) → has_some (unread_of mail process) ≡ true → front_of mail process ≡ None → ⊥
-has_front mail process some none = front_some (unread_of mail process) some none
-
-pub not_broken : (futures : Futures Parcel) (future : ℕ) → option_map_or is_broken (numbered futures future) false ≡ false → numbered futures future ≡ Some Broken → ⊥
-not_broken futures future whole is =
-    let broken : true ≡ false = sym (ap (λ (o : Option (FutureState Parcel)). option_map_or is_broken o false) is) ∙ whole in cc
-
 pub not_reached : (b : Bool) (text : List ℕ) → cond b (Some text) None ≡ None → b ≡ false
 not_reached true text e = absurd (cc)
 not_reached false text e = refl
-
-pub mailbox_fits : (count : ℕ) (limits : List ℕ) → reached limit.Mailbox count limits ≡ None → limit_of limit.Mailbox limits ≤ count → ⊥
-mailbox_fits count limits whole over =
-    let test : nat_le (limit_of limit.Mailbox limits) count ≡ false = not_reached (nat_le (limit_of limit.Mailbox limits) count) _ whole in
-    grind (arith, nat_tests)
-
-pub futures_fit : (count : ℕ) (limits : List ℕ) → reached limit.Futures count limits ≡ None → limit_of limit.Futures limits ≤ count → ⊥
-futures_fit count limits whole over =
-    let test : nat_le (limit_of limit.Futures limits) count ≡ false = not_reached (nat_le (limit_of limit.Futures limits) count) _ whole in
-    grind (arith, nat_tests)
-
-pub sent_nowhere : (mail : Mail Parcel) (to sender method : ℕ) (values : Parcel) → numbered mail to ≡ None → after_send mail to sender method values ≡ mail
-sent_nowhere mail to sender method values none = ap (λ (o : Option (Mailbox Parcel)). send_to_box o mail to sender method values) none
 
 set_twice : {X : Type 0} (xs : List X) (of : ℕ) (x y : X) → set_numbered (set_numbered xs of x) of y ≡ set_numbered xs of y
 set_twice xs zero x y = refl

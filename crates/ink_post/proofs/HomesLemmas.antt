@@ -1,12 +1,10 @@
 -- The lists of a world after one process went out or came home, and after the mail changed.
-use Rattle.std.proofs.Common.{◌≡◌, ℕ, Option, None, Some, List, [], ◌∷◌, ◌++◌, length, map, false, Bor, refl, ap, sym, ◌∙◌}
+use Rattle.std.proofs.Common.{◌≡◌, ℕ, Option, None, Some, List, [], length, map, false, Bor, refl, ap, sym, ◌∙◌}
 use Rattle.std.specs.Option.{is_some, option_copied, option_map}
-use Rattle.std.proofs.lemmas.List.{length-map, map-append}
-use Rattle.ink_base.specs.Messages.{Mail, Mailbox, Message, send_to_box, take_from_box, put_in_box, after_send, after_take, after_put_back}
+use Rattle.std.proofs.lemmas.List.{length-map}
 use Rattle.ink_base.specs.Numbered.{numbered, set_numbered}
 use Rattle.ink_code.specs.Process.{Process}
-use Rattle.ink_code.specs.Trees.{Parcel}
-use Rattle.ink_law_turns.proofs.Numbering.{length-set_numbered, none_some, map_set_numbered, numbered-map}
+use Rattle.ink_law_turns.proofs.Numbering.{none_some, map_set_numbered, numbered-map}
 use Rattle.ink_mail.specs.Boxes.{RoomyBox, mail_of}
 use Rattle.ink_post.specs.Answers.{Lends, LendsBy}
 use Rattle.ink_post.specs.Asks.{NoneReady}
@@ -21,36 +19,12 @@ use Rattle.ink_worlds.specs.declared.status.Status.TheVariants.{Held, Idle, Out,
 pub home_set : (homes : List (Option Proc)) (process : ℕ) (home : Option Proc) → map home_of (set_numbered homes process home) ≡ set_numbered (map home_of homes) process (home_of home)
 home_set homes process home = map_set_numbered home_of homes process home
 
-pub home_added : (homes : List (Option Proc)) (home : Option Proc) → map home_of (homes ++ home ∷ []) ≡ map home_of homes ++ home_of home ∷ []
-home_added homes home = map-append home_of homes (home ∷ [])
-
 pub homes_length : (homes : List (Option Proc)) → length (map home_of homes) ≡ length homes
 homes_length homes = length-map homes home_of
 
 -- there is a mailbox for each process
 pub mail_count : (post : Post) → length (mail_of post.mail) ≡ length post.homes.items
 mail_count post = length-map post.mail.items (λ (roomy : RoomyBox). roomy.mailbox) ∙ post.mail_level ∙ sym post.homes_level
-
-sent_count : (o : Option (Mailbox Parcel)) (mail : Mail Parcel) (to sender method : ℕ) (values : Parcel) → length (send_to_box o mail to sender method values) ≡ length mail
-sent_count None mail to sender method values = refl
-sent_count (Some box) mail to sender method values = length-set_numbered mail to _
-
-pub sent_length : (mail : Mail Parcel) (to sender method : ℕ) (values : Parcel) → length (after_send mail to sender method values) ≡ length mail
-sent_length mail to sender method values = sent_count (numbered mail to) mail to sender method values
-
-taken_count : (o : Option (Mailbox Parcel)) (mail : Mail Parcel) (of : ℕ) → length (take_from_box o mail of) ≡ length mail
-taken_count None mail of = refl
-taken_count (Some box) mail of = length-set_numbered mail of _
-
-pub taken_length : (mail : Mail Parcel) (of : ℕ) → length (after_take mail of) ≡ length mail
-taken_length mail of = taken_count (numbered mail of) mail of
-
-back_count : (o : Option (Mailbox Parcel)) (mail : Mail Parcel) (of : ℕ) (message : Message Parcel) → length (put_in_box o mail of message) ≡ length mail
-back_count None mail of message = refl
-back_count (Some box) mail of message = length-set_numbered mail of _
-
-pub back_length : (mail : Mail Parcel) (of : ℕ) (message : Message Parcel) → length (after_put_back mail of message) ≡ length mail
-back_length mail of message = back_count (numbered mail of) mail of message
 
 -- one process went home, or out
 pub home_changed : (old : CodeState) (process : ℕ) (home : Option Proc) (status : Status) (homes homes' : List (Option Proc)) (statuses : List Status) → map home_of homes ≡ old.homes → homes' ≡ set_numbered homes process home → statuses ≡ set_numbered old.statuses process status → record old { homes = map home_of homes'; statuses = statuses } ≡ put_in process (home_of home) status old

@@ -187,23 +187,3 @@ stands_on code old new a.Panicked stands stays = (with_line a.Panicked stands.0,
 stands_on code old new a.JournalFull stands stays = (with_line a.JournalFull stands.0, stays stands.0 stands.1)
 stands_on code old new (a.Spent steps) stands stays = (with_line (a.Spent steps) stands.0, stays stands.0 stands.1)
 stands_on code old new a.Wrong stands stays = tt
-
-pub went_stands : (code : Code) (process : ℕ) (p : Process) (old new : Post) (answer : Answer) → ChecksHome code process c.Went p old new (Ok answer) → StandsOn code new answer → Stands code new
-went_stands code process p old new a.Kept checks stands = stands
-went_stands code process p old new a.Moved checks stands = stands
-went_stands code process p old new (a.Printed text) checks stands = stands
-went_stands code process p old new a.Waits checks stands = stands
-went_stands code process p old new a.Panicked checks stands = stands
-went_stands code process p old new a.JournalFull checks stands = stands
-went_stands code process p old new (a.Spent steps) checks stands = stands
-went_stands code process p old new a.Wrong checks stands = absurd ((checks []).0)
-
-pub given_stands : (code : Code) (process : ℕ) (p : Process) (old new : Post) (answer : Answer) → ChecksHome code process c.GivesUp p old new (Ok answer) → StandsOn code new answer → Stands code new
-given_stands code process p old new a.Kept checks stands = stands
-given_stands code process p old new a.Moved checks stands = stands
-given_stands code process p old new (a.Printed text) checks stands = stands
-given_stands code process p old new a.Waits checks stands = stands
-given_stands code process p old new a.Panicked checks stands = stands
-given_stands code process p old new a.JournalFull checks stands = stands
-given_stands code process p old new (a.Spent steps) checks stands = stands
-given_stands code process p old new a.Wrong checks stands = absurd ((checks []).0)

@@ -1,7 +1,6 @@
 -- The objects of a process that starts with what a parcel brings.
 use Rattle.std.proofs.Common.{◌≡◌, ◌≢◌, ℕ, Bool, true, false, cond, Option, None, Some, refl, ap, sym, ◌∙◌}
 use Rattle.std.specs.Prelude.{IsSome}
-use Rattle.std.specs.Option.{is_some}
 use Rattle.std.specs.FinMap.{empty, get, insert, remove, get-empty, get-insert, get-remove, same_map}
 use Rattle.ink_base.specs.declared.ident.ObjectId.{ObjectId}
 use Rattle.ink_base.specs.declared.object.Object.{Object}
@@ -68,10 +67,6 @@ filled_whole whole rest part state old new alone splits =
     ∙ ap (cond (is_same id state) (Some new)) (get-remove id_cmp_total whole state id)
     ∙ at_name (is_same id state) (get whole id) (get rest id) (get part id) old new (ap (λ (os : Objects). get os id) alone ∙ one_has state id old) (splits id)
     ∙ sym (get-insert id_cmp_total part state new id))
-
-pub none_of : (o : Option Object) → is_some o ≡ false → o ≡ None
-none_of None e = refl
-none_of (Some object) e = absurd (cc)
 
 -- a parcel with nothing in it has nothing of a process to come
 pub none_fresh : (fields : Parcel) (number : ℕ) → fields ≡ no_parcel → IsFreshFor number fields.objects

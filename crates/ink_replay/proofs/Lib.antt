@@ -1,2 +1,5 @@
+mod CalmLemmas
 mod EndLemmas
 mod LookLemmas
+mod StuckLemmas
+mod TurnLemmas

@@ -1,9 +1,11 @@
 //! The replay.
 ghost use Rattle.std.specs.Prelude.{◌≡◌, [], IfErr, IfOk, OnErr};
 ghost use Rattle.ink_post.specs.Worlds.{Stands};
+ghost use Rattle.ink_replay.specs.Calm.{IsCalm};
 ghost use Rattle.ink_replay.specs.Ends.{StopsAt};
 ghost use Rattle.ink_replay.specs.Entries.{Begins};
 ghost use Rattle.ink_replay.specs.Faults.{made_of};
+ghost use Rattle.ink_replay.specs.Refusals.{Refuses};
 ghost use Rattle.ink_replay.specs.Stops.{KeepsUntil, MadeBy, UnlessWrong};
 ghost use Rattle.ink_run.specs.Sinks.{sink_of};
 ghost use Rattle.ink_run.specs.Written.{IsWritten};
@@ -49,9 +51,11 @@ fn stop_of<K: Sink + Drop>(
 ) -> Result<ReplayStop, AllocError>
     requires stands { Stands code.now world.old.post }
     requires first { world.old.post.journal.entries ≡ [] }
+    requires calm { IsCalm world.old.post }
     ensures keeps { IfOk result (λ stop. KeepsUntil code.now stop world.old.post world.new.post (sink_of K.contents K.faults world.old.sink) (sink_of K.contents K.faults world.new.sink)) }
     ensures made { IfOk result (λ stop. MadeBy stop journal.now.entries world.new.post.journal.entries) }
     ensures at { IfOk result (λ stop. StopsAt code.now stop world.new.post) }
+    ensures refuses { IfOk result (λ stop. Refuses code.now world.old.post.limits stop journal.now.entries) }
     ensures begins { OnErr result (Begins journal.now.entries world.new.post.journal.entries) }
 {
     match make_entries(code, world, journal) {
@@ -62,6 +66,7 @@ fn stop_of<K: Sink + Drop>(
     }
 }
 
+#[tactic(auto, using(crate::proofs::TurnLemmas::begins_calm))]
 /// Makes a run of a code again from its journal, whose prints go out to a sink.
 ///
 /// The entries are made in their order. The replay stops at the first that can't be made, at a sink that fails, and at a
@@ -77,6 +82,7 @@ pub fn replay<K: Sink + Drop>(
 ) -> Result<Replayed<K>, ReplayFault<K>>
     ensures made { IfOk result (λ replayed. MadeBy replayed.stop journal.now.entries replayed.world.post.journal.entries) }
     ensures stops { IfOk result (λ replayed. StopsAt code.now replayed.stop replayed.world.post) }
+    ensures refuses { IfOk result (λ replayed. Refuses code.now limits replayed.stop journal.now.entries) }
     ensures stands { IfOk result (λ replayed. UnlessWrong replayed.stop (Stands code.now replayed.world.post)) }
     ensures written { IfOk result (λ replayed. UnlessWrong replayed.stop (IsWritten code.now replayed.world.post (sink_of K.contents K.faults sink) (sink_of K.contents K.faults replayed.world.sink))) }
     ensures limits { IfOk result (λ replayed. UnlessWrong replayed.stop (replayed.world.post.limits ≡ limits)) }

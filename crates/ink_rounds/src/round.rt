@@ -12,7 +12,7 @@ ghost use Rattle.ink_run.specs.Sinks.{sink_of};
 ghost use Rattle.ink_run.specs.declared.applied.Applied.TheVariants as answer;
 
 use crate::lent::Lent;
-use ink_base::Limits;
+use ink_base::{Limit, Limits};
 use ink_code::Code;
 use ink_devices::Sink;
 use ink_proc::Proc;
@@ -20,6 +20,9 @@ use ink_run::{Applied, Came, CheckFault, World};
 use std::alloc::Global;
 use std::thread;
 use std::thread::Threads;
+
+/// So many steps take about as long as it takes to start a few threads and to wait for them.
+const THREAD_STEPS: u64 = 50_000;
 
 /// The code of this process is wrong.
 #[derive(Clone, Copy)]
@@ -71,6 +74,19 @@ fn make_slices<R: Threads + Sync>(
     );
 }
 
+/// By how many threads so many processes make their slices: by one where all of them together make fewer steps than a thread
+/// costs, and else by no more than there are processes.
+fn threads_for(lent: usize, limits: &Limits, workers: usize) -> usize
+    ensures { 0 < result }
+{
+    let steps = limits.get(Limit::Slice).saturating_mul(lent as u64);
+    if steps < THREAD_STEPS {
+        1
+    } else {
+        workers.min(lent).max(1)
+    }
+}
+
 /// The same of the processes of a vector.
 fn slice_all<R: Threads + Sync>(
     rt: &R,
@@ -83,7 +99,8 @@ fn slice_all<R: Threads + Sync>(
     requires { 0 < workers }
     ensures { AreSliced code.now limits.now lent.old.items lent.new.items }
 {
-    make_slices(rt, alloc, code, limits, lent.as_mut_slice(), workers);
+    let threads = threads_for(lent.len(), limits, workers);
+    make_slices(rt, alloc, code, limits, lent.as_mut_slice(), threads);
 }
 
 /// The last comes first.
@@ -120,6 +137,7 @@ fn give_up<K: Sink + Drop>(
     requires comes { IsComing code.now world.old.post number number came.GivesUp (state_of proc) }
     ensures leaves { OnOk result (Leaves code.now number world.old.post world.new.post) }
     ensures written { OnOk result (WritesOn code.now world.old.post world.new.post (sink_of K.contents K.faults world.old.sink) (sink_of K.contents K.faults world.new.sink)) }
+    ensures limits { OnOk result (world.new.post.limits ≡ world.old.post.limits) }
 {
     match world.check_in(code, number, number, proc, Came::GivesUp) {
         Ok(applied) => {
@@ -142,6 +160,7 @@ fn bring_home<K: Sink + Drop>(
     requires comes { IsHomeward code.now world.old.post one }
     ensures leaves { OnOk result (Leaves code.now one.number world.old.post world.new.post) }
     ensures written { OnOk result (WritesOn code.now world.old.post world.new.post (sink_of K.contents K.faults world.old.sink) (sink_of K.contents K.faults world.new.sink)) }
+    ensures limits { OnOk result (world.new.post.limits ≡ world.old.post.limits) }
 {
     let Lent {
         number,
@@ -176,6 +195,7 @@ fn bring_all_home<K: Sink + Drop>(
     requires comes { AreHomeward code.now world.old.post (reverse lent.items) }
     ensures stands { OnOk result (Stands code.now world.new.post) }
     ensures written { OnOk result (WritesOn code.now world.old.post world.new.post (sink_of K.contents K.faults world.old.sink) (sink_of K.contents K.faults world.new.sink)) }
+    ensures limits { OnOk result (world.new.post.limits ≡ world.old.post.limits) }
 {
     let mut is_whole = true;
     while let Some(one) = lent.pop() {
@@ -200,6 +220,7 @@ pub(crate) fn make_round<R: Threads + Sync, K: Sink + Drop>(
     requires stands { Stands code.now world.old.post }
     ensures stands { OnOk result (Stands code.now world.new.post) }
     ensures written { OnOk result (WritesOn code.now world.old.post world.new.post (sink_of K.contents K.faults world.old.sink) (sink_of K.contents K.faults world.new.sink)) }
+    ensures limits { OnOk result (world.new.post.limits ≡ world.old.post.limits) }
 {
     let limits = *world.limits();
     let mut lent = Vec::new(alloc);

@@ -2,7 +2,8 @@
 ghost use Rattle.std.specs.Prelude.{◌≡◌, IfErr, IfOk};
 ghost use Rattle.ink_post.specs.Ends.{end_in};
 ghost use Rattle.ink_post.specs.Worlds.{Stands};
-ghost use Rattle.ink_rounds.specs.Homes.{WritesOn};
+ghost use Rattle.ink_rounds.specs.Faults.{world_in};
+ghost use Rattle.ink_rounds.specs.Homes.{LeavesOn, WritesOn};
 ghost use Rattle.ink_rounds.specs.Stops.{UnlessWrong, stop_in};
 ghost use Rattle.ink_run.specs.Sinks.{sink_of};
 
@@ -69,6 +70,8 @@ pub fn run_rounds<R: Threads + Sync, K: Sink + Drop>(
     ensures stands { IfOk result (λ ran. UnlessWrong ran.stop (Stands code.now ran.world.post)) }
     ensures stop { IfOk result (λ ran. UnlessWrong ran.stop (ran.stop ≡ stop_in budget (end_in ran.world.post.halt ran.world.post.wrong ran.world.post.statuses.items))) }
     ensures written { IfOk result (λ ran. UnlessWrong ran.stop (WritesOn code.now world.post ran.world.post (sink_of K.contents K.faults world.sink) (sink_of K.contents K.faults ran.world.sink))) }
+    ensures limits { IfOk result (λ ran. UnlessWrong ran.stop (ran.world.post.limits ≡ world.post.limits)) }
+    ensures fault { IfErr result (λ fault. LeavesOn code.now world.post (world_in fault).post (sink_of K.contents K.faults world.sink) (sink_of K.contents K.faults (world_in fault).sink)) }
 {
     let threads = workers.max(1) as usize;
     let mut world = world;

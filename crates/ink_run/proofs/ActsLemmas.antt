@@ -1,31 +1,24 @@
 -- What a turn and a look leave of the world and its sink.
 use Rattle.std.proofs.Common.{◌≡◌, ℕ, Option, None, Some, Ok, List, [], ◌∷◌, ◌++◌, refl, ap, sym, ◌∙◌, subst}
 use Rattle.ink_code.specs.declared.code.Code.{Code}
-use Rattle.ink_code.specs.Process.{Process}
-use Rattle.ink_code.specs.Trees.{Parcel}
-use Rattle.ink_law_runs.specs.CodeMachine.{code_machine, opening_run}
-use Rattle.ink_law_worlds.specs.Coming.{StandsForCode}
-use Rattle.ink_post.specs.Answers.{ActsAs, ChecksBy, ChecksHome, Lends, StaysAhead, told_answer}
-use Rattle.ink_post.specs.Asks.{came_with, told_came}
+use Rattle.ink_post.specs.Answers.{ActsAs, ChecksHome, told_answer}
+use Rattle.ink_post.specs.Asks.{came_with}
 use Rattle.ink_post.specs.Entries.{entries_by}
 use Rattle.ink_post.specs.Turning.{Rests}
 use Rattle.ink_post.specs.Turning as turning
-use Rattle.ink_post.specs.Worlds.{CodeState, Stands, StandsAfter, world_of}
+use Rattle.ink_post.specs.Worlds.{Stands, StandsAfter}
 use Rattle.ink_post.specs.declared.answer.Answer.{Answer}
 use Rattle.ink_post.specs.declared.answer.Answer.TheVariants as a
-use Rattle.ink_post.specs.declared.answer.Came.{Came as OneCame}
 use Rattle.ink_post.specs.declared.answer.Looked.{Looked}
 use Rattle.ink_post.specs.declared.answer.Looked.TheVariants as looked
 use Rattle.ink_post.specs.declared.post.Post.{Post}
-use Rattle.ink_post.proofs.EntriesLemmas.{Halts, checks_halts}
-use Rattle.ink_run.proofs.Stays.{stays_written}
+use Rattle.ink_post.proofs.StandingLemmas.{stands_on}
+use Rattle.ink_post.proofs.TurningLemmas.{lends_rests}
+use Rattle.ink_run.proofs.Stays.{stands_written, stays_written}
 use Rattle.ink_run.specs.Sinks.{Gets, SinkState}
 use Rattle.ink_run.specs.Written.{AddsBy, GotBy, KeepsWritten, LooksOn, LooksWritten, StandsOn, StaysWritten, Writes, WritesLine}
 use Rattle.ink_run.specs.declared.applied.Applied.{Applied}
 use Rattle.ink_run.specs.declared.applied.Applied.TheVariants as applied
-use Rattle.ink_worlds.proofs.Stands.{checks_out, sink_fails}
-use Rattle.ink_worlds.specs.State.{Came}
-use Rattle.ink_worlds.specs.State as w
 use Rattle.ink_worlds.specs.declared.halt.Halt.{Halt}
 use Rattle.ink_worlds.specs.declared.halt.Halt.TheVariants.{Local}
 
@@ -107,58 +100,6 @@ writes_add process answer old middle new before after got adds writes = by_answe
     by_answer (a.Spent steps) adds writes = told (applied.Spent steps) writes.0 writes.1 adds
     by_answer a.Wrong adds writes = told applied.Wrong writes.0 writes.1 adds
 
--- after a print the run goes on
-moved_goes : (process : ℕ) (o : Option Halt) (old new : CodeState) → Halts process o old new w.Moved → new.halt ≡ None
-moved_goes process None old new halts = halts.0
-moved_goes process (Some halt) old new halts = absurd (let e = halts.2 in cc)
-
-printed_goes : (code : Code) (process : ℕ) (o : Option (Came Parcel)) (p : Process) (old middle : Post) (text output : List ℕ) → ChecksBy code old.limits process o p (world_of old output) (world_of middle (output ++ text ++ 10 ∷ [])) (a.Printed text) → middle.halt ≡ None
-printed_goes code process None p old middle text output checks = absurd (let e = checks.0 in cc)
-printed_goes code process (Some one) p old middle text output checks =
-    let before : CodeState = world_of old output in
-    let after : CodeState = world_of middle (output ++ text ++ 10 ∷ []) in
-    moved_goes process old.halt before after (checks_halts (code_machine code old.limits) old.limits process p before one old.halt w.Moved after refl checks)
-
-line_stands : (code : Code) (line output : List ℕ) (middle new : Post) (before after : SinkState) (got : Applied) → middle.halt ≡ None → StandsAfter code middle output → WritesLine line middle new before after got → StandsOn code new got
-line_stands code line output middle new before after applied.Moved goes stands writes = subst (λ (x : Post). Stands code x) (sym writes.1) (output, stands)
-line_stands code line output middle new before after applied.SinkFailed goes stands writes =
-    subst (λ (x : Post). Stands code x) (sym writes.1) (output, sink_fails (code_machine code middle.limits) middle.limits (opening_run code) (world_of middle output) stands goes)
-line_stands code line output middle new before after applied.Kept goes stands writes = absurd writes
-line_stands code line output middle new before after applied.Waits goes stands writes = absurd writes
-line_stands code line output middle new before after applied.Panicked goes stands writes = absurd writes
-line_stands code line output middle new before after applied.JournalFull goes stands writes = absurd writes
-line_stands code line output middle new before after (applied.Spent steps) goes stands writes = absurd writes
-line_stands code line output middle new before after applied.Wrong goes stands writes = absurd writes
-
--- the world stands after what was done went out
-pub applied_stands : (code : Code) (process : ℕ) (came : OneCame) (p : Process) (old middle new : Post) (before after : SinkState) (answer : Answer) (got : Applied) → Stands code old → StaysAhead code old middle answer → ChecksHome code process came p old middle (Ok answer) → Writes answer middle new before after got → StandsOn code new got
-applied_stands code process came p old middle new before after answer got stands stays checks writes = by_answer answer stays checks writes
-  where
-    told : (one : Applied) → got ≡ one → new ≡ middle → StandsOn code middle one → StandsOn code new got
-    told one is same there = subst (λ (x : Applied). StandsOn code new x) (sym is) (subst (λ (x : Post). StandsOn code x one) (sym same) there)
-
-    by_answer : (one : Answer) → StaysAhead code old middle one → ChecksHome code process came p old middle (Ok one) → Writes one middle new before after got → StandsOn code new got
-    by_answer a.Kept stays checks writes = told applied.Kept writes.0 writes.1 (stands.0, stays stands.0 stands.1)
-    by_answer a.Moved stays checks writes = told applied.Moved writes.0 writes.1 (stands.0, stays stands.0 stands.1)
-    by_answer (a.Printed text) stays checks writes =
-        line_stands code (text ++ 10 ∷ []) (stands.0 ++ text ++ 10 ∷ []) middle new before after got (printed_goes code process (told_came came) p old middle text stands.0 (checks stands.0)) (stays stands.0 stands.1) writes
-    by_answer a.Waits stays checks writes = told applied.Waits writes.0 writes.1 (stands.0, stays stands.0 stands.1)
-    by_answer a.Panicked stays checks writes = told applied.Panicked writes.0 writes.1 (stands.0, stays stands.0 stands.1)
-    by_answer a.JournalFull stays checks writes = told applied.JournalFull writes.0 writes.1 (stands.0, stays stands.0 stands.1)
-    by_answer (a.Spent steps) stays checks writes = told (applied.Spent steps) writes.0 writes.1 (stands.0, stays stands.0 stands.1)
-    by_answer a.Wrong stays checks writes = told applied.Wrong writes.0 writes.1 tt
-
--- a process went out
-lends_rests : (code : Code) (process seat : ℕ) (old new : Post) (p : Process) → new.limits ≡ old.limits → Lends process seat old new p → Rests code old new
-lends_rests code process seat old new p limits lends = record {
-  stands = λ output stands.
-      let l = lends output in
-      let out = checks_out (code_machine code old.limits) old.limits (opening_run code) (world_of old output) process seat p stands l.0 l.1 in
-      subst (λ (ns : List ℕ). StandsForCode code ns (world_of new output)) (sym limits) (subst (λ (s : CodeState). StandsForCode code old.limits s) (sym l.2) out.0);
-  entries = ap (λ (s : CodeState). s.journal) ((lends []).2);
-  halt = ap (λ (s : CodeState). s.halt) ((lends []).2);
-}
-
 -- a process had a turn, in a world that stood
 module _ (code : Code) (process : ℕ) (old middle new : Post) (before after : SinkState) (answer : Answer) (got : Applied) (acts : ActsAs code process old middle answer) (writes : Writes answer middle new before after got) where
   -- the process went out
@@ -168,9 +109,10 @@ module _ (code : Code) (process : ℕ) (old middle new : Post) (before after : S
   checks_home : ChecksHome code process (came_with acts.goes.stepped) acts.goes.q acts.middle middle (Ok answer)
   checks_home = acts.goes.checks
 
-  pub acts_stand : Stands code old → StandsOn code new got
-  acts_stand stands =
-      applied_stands code process (came_with acts.goes.stepped) acts.goes.q acts.middle middle new before after answer got (rests_stands code old acts.middle went_out stands) acts.goes.stays checks_home writes
+  pub acts_stand : middle.limits ≡ old.limits → Stands code old → StandsOn code new got
+  acts_stand limits stands =
+      stands_written code process (came_with acts.goes.stepped) acts.goes.q acts.middle middle (limits ∙ sym acts.limits) before after answer new got
+      (stands_on code acts.middle middle answer (rests_stands code old acts.middle went_out stands) acts.goes.stays) checks_home writes
 
   pub acts_written : middle.limits ≡ old.limits → StaysWritten code old new before after got
   acts_written limits =

@@ -1,3 +1,4 @@
+use Rattle.std.proofs.Common.{◌∙◌}
 use Rattle.ink_rounds.proofs.LentLemmas.{rest_homeward}
 use Rattle.ink_rounds.proofs.round.bring_all_home.Goals as goal
 
@@ -7,6 +8,7 @@ loop-one-preserved-then-is_whole g c = record {
   stands = c.in-Ok.ensures.leaves.stands;
   comes = rest_homeward c.args.code.now c.loop-one.world.post c.bring_home.new.world.post c.loop-one.lent.items c.pop.new.self.items c.in-Some.one c.in-Some.ensures.items c.loop-one.invariant.comes c.in-Ok.ensures.leaves;
   written = λ first written. c.in-Ok.ensures.written first (c.loop-one.invariant.written first written);
+  limits = c.in-Ok.ensures.limits ∙ c.loop-one.invariant.limits;
 }
 
 -- src/round.rt:181:5
@@ -15,4 +17,5 @@ loop-one-preserved g c = record {
   stands = c.in-Ok.ensures.leaves.stands;
   comes = rest_homeward c.args.code.now c.loop-one.world.post c.bring_home.new.world.post c.loop-one.lent.items c.pop.new.self.items c.in-Some.one c.in-Some.ensures.items c.loop-one.invariant.comes c.in-Ok.ensures.leaves;
   written = λ first written. c.in-Ok.ensures.written first (c.loop-one.invariant.written first written);
+  limits = c.in-Ok.ensures.limits ∙ c.loop-one.invariant.limits;
 }

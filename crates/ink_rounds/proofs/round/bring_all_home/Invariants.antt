@@ -1,4 +1,4 @@
-use Rattle.std.proofs.Common.{length, reverse}
+use Rattle.std.proofs.Common.{◌≡◌, length, reverse}
 use Rattle.ink_post.specs.Worlds.{Stands}
 use Rattle.ink_rounds.specs.Homes.{WritesOn}
 use Rattle.ink_rounds.specs.Lent.{AreHomeward}
@@ -10,6 +10,7 @@ invariant-loop-one g l = record {
   stands : Stands l.code l.world.post;
   comes : AreHomeward l.code l.world.post (reverse l.lent.items);
   written : WritesOn l.code l.initial.world.post l.world.post (sink_of g.K.Sink.contents g.K.Sink.faults l.initial.world.sink) (sink_of g.K.Sink.contents g.K.Sink.faults l.world.sink);
+  limits : l.world.post.limits ≡ l.initial.world.post.limits;
 }
 
 abbrev pub decreases-loop-one : goal.decreases-loop-one

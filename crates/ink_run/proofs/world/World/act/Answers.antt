@@ -12,7 +12,7 @@ pub returns-in-Ok-clause-acts : goal.returns-in-Ok-clause-acts
 returns-in-Ok-clause-acts g c = record { answer = c.in-Ok.answer; middle = c.act.new.self; acts = c.in-Ok.ensures.acts; writes = c.written.ensures }
 
 pub returns-in-Ok-clause-stands : goal.returns-in-Ok-clause-stands
-returns-in-Ok-clause-stands g c = acts_stand c.args.code.now c.args.process c.args.self.now.post c.act.new.self _ _ _ c.in-Ok.answer c.written.result c.in-Ok.ensures.acts c.written.ensures c.requires
+returns-in-Ok-clause-stands g c = acts_stand c.args.code.now c.args.process c.args.self.now.post c.act.new.self _ _ _ c.in-Ok.answer c.written.result c.in-Ok.ensures.acts c.written.ensures c.act.ensures.limits c.requires
 
 pub returns-in-Ok-clause-written : goal.returns-in-Ok-clause-written
 returns-in-Ok-clause-written g c = acts_written c.args.code.now c.args.process c.args.self.now.post c.act.new.self _ _ _ c.in-Ok.answer c.written.result c.in-Ok.ensures.acts c.written.ensures c.act.ensures.limits

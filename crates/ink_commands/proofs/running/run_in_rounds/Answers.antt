@@ -1,0 +1,17 @@
+use Rattle.std.proofs.Common.{ap, ◌∙◌}
+use Rattle.ink_post.specs.declared.post.Post.{Post}
+use Rattle.ink_rounds.specs.Faults.{world_in}
+use Rattle.ink_commands.proofs.Written.{rounds_failed, rounds_stopped}
+use Rattle.ink_commands.proofs.running.run_in_rounds.Goals as goal
+
+pub returns-in-Err-clause-wrote : goal.returns-in-Err-clause-wrote
+returns-in-Err-clause-wrote g c first below written =
+    rw (c.stopped.ensures.out, c.world_back.ensures.sink)
+    (rounds_failed c.args.code.now c.args.world.post (world_in c.in-Err.fault).post first _ _ c.stopped.result.cause c.stopped.result.journal.entries c.stopped.ensures.cause
+    (c.stopped.ensures.journal ∙ ap (λ (p : Post). p.journal.entries) c.world_back.ensures.post) below c.in-Err.ensures.fault written)
+
+pub returns-in-Ok-clause-wrote : goal.returns-in-Ok-clause-wrote
+returns-in-Ok-clause-wrote g c first below written =
+    rw (c.stopped-in-Ok.ensures.out)
+    (rounds_stopped c.args.code.now c.args.world.post c.in-Ok.ran.world.post first _ _ c.args.rounds c.in-Ok.ran.stop c.cause_of_rounds.result c.stopped-in-Ok.result.cause c.stopped-in-Ok.result.journal.entries
+    c.stopped-in-Ok.ensures.cause c.cause_of_rounds.ensures.is c.stopped-in-Ok.ensures.journal below c.in-Ok.ensures.stop c.in-Ok.ensures.written c.in-Ok.ensures.limits written)
