@@ -1,6 +1,7 @@
 -- What the top call promises.
 use Rattle.std.specs.Prelude.{◌≡◌, ℕ, ◌<◌, ◌⊎◌, List, [], ◌++◌, take, Option, None, Some, option_map}
 use Rattle.ink_base.specs.Limits.{limit_of}
+use Rattle.ink_base.specs.Numbered.{numbered}
 use Rattle.ink_base.specs.declared.limits.Limit.TheVariants.{Events}
 use Rattle.ink_base.specs.declared.token.Token.{Token}
 use Rattle.ink_base.specs.declared.refusal.Refusal.{Refusal}
@@ -8,9 +9,12 @@ use Rattle.ink_devices.specs.Outside.{Directory, Reads, appended}
 use Rattle.ink_words.specs.Commands.{Word, Asked, IsOrder, IsWrongWord, recording_of}
 use Rattle.ink_code.specs.declared.code.Code.{Code}
 use Rattle.ink_code.specs.Listing.{listing_text}
+use Rattle.ink_code.specs.Readings.{Event, Events as AreEvents, messages_handled, messages_sent}
+use Rattle.ink_code.specs.Runs.{World}
 use Rattle.ink_generator.specs.Generated.{generated}
 use Rattle.ink_grammar.specs.Tree.{Tree}
 use Rattle.ink_journal.specs.File.{IsFile, Leaves}
+use Rattle.ink_law_turns.specs.Order.{Begins, Rise, sent_to}
 use Rattle.ink_names.specs.Later.{IsLater}
 use Rattle.ink_print.specs.Layout.{print}
 use Rattle.ink_ranges.specs.Ranges.{IsWithin}
@@ -252,6 +256,13 @@ pub record TellsBehind (call : TopCall) (text : List ℕ) : Type 0 where
 abbrev pub TellsCause : TopCall → Type 0
 TellsCause call = (text : List ℕ) × IsTextOf call call.cause text × TellsBehind call text
 
+-- The order of messages, in whatever replay the journal has: what one process handled of another begins what that one sent to
+-- it, in the order in which it sent them, and their numbers rise, so that each is handled once.
+abbrev pub OrdersMessages : TopCall → Type 0
+OrdersMessages call = (code : Code) (limits : List ℕ) (world : World) (events : List Event) → AreEvents code limits call.journal world events
+    → (sender receiver : ℕ) → Begins (messages_handled sender receiver events) (messages_sent code sender receiver events)
+    × Rise 0 (messages_sent code sender receiver events) (sent_to (numbered world.shared.mail receiver))
+
 -- What each call promises, for all words, all bytes and all ways in which devices fail.
 pub record IsPromised (call : TopCall) : Type 0 where
   pub refused_module : RefusesModule call
@@ -266,3 +277,4 @@ pub record IsPromised (call : TopCall) : Type 0 where
   pub journal : RecordsJournal call
   pub faults : ShowsFaults call
   pub told : TellsCause call
+  pub order : OrdersMessages call

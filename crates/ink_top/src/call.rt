@@ -12,6 +12,7 @@ use ink_base::{Journal, Text};
 use ink_causes::{Cause, tell};
 use ink_commands::{Found, Outcome, obey};
 use ink_devices::{Files, Gate, Sink};
+use ink_law_runs::messages_are_handled_in_order;
 use ink_round::print_reads_back;
 use ink_words::{read_words, recording};
 use std::alloc::Global;
@@ -135,8 +136,9 @@ pub fn inko_still<R: Threads + Sync, F: Files, K: Sink + Send + Drop, E: Sink>(
     }) }
     ensures status { result.status ≡ status_of result.cause }
 {
-    // A law, for the promise on the same module: it does nothing.
+    // Two laws, for the promises on the same module and on the order of messages: they do nothing.
     print_reads_back();
+    messages_are_handled_in_order();
     let Found { outcome, name } = perform(rt, alloc, words, files, out);
     let Outcome {
         cause,

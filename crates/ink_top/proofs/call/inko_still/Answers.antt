@@ -19,4 +19,5 @@ returns-clause-promise g c =
       read = c.perform-outcome.ensures.files;
       tells = c.tell-told.ensures;
       keeps = c.keep-cause.ensures;
-    }) (λ file limits bytes tokens tree source reads. c.print_reads_back.ensures bytes tokens tree reads.lexed reads.parsed))
+    }) (λ file limits bytes tokens tree source reads. c.print_reads_back.ensures bytes tokens tree reads.lexed reads.parsed)
+    (λ code limits world events made sender receiver. (c.messages_are_handled_in_order.ensures.order code limits _ world events made sender receiver, c.messages_are_handled_in_order.ensures.numbers code limits _ world events made sender receiver)))
