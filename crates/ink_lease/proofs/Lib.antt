@@ -1,0 +1,9 @@
+mod Ends
+mod Giving
+mod Joining
+mod Places
+mod RangeLemmas
+mod Seats
+mod SpareLemmas
+mod Splitting
+mod Winning
