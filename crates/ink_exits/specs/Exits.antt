@@ -57,15 +57,15 @@ abbrev mutual
   exits_of_guard b xs Always v = v
   exits_of_guard b xs (When a) v = exits b xs a v
 
-  -- of arms, each of which ends at its pattern
+  -- of arms, each of which ends at its pattern; in a guard nothing of it is bound yet
   pub exits_of_arms : ℕ → List ℕ → Arms → List (List ℕ) → List (List ℕ)
   exits_of_arms b xs NoArm v = v
   exits_of_arms b xs (AndArm p g a es) v =
-      exits_of_arms b xs es (put (number_of_pat p) (drop (length xs) (bind p xs)) (exits b (bind p xs) a (exits_of_guard b (bind p xs) g v)))
+      exits_of_arms b xs es (put (number_of_pat p) (drop (length xs) (bind p xs)) (exits b (bind p xs) a (exits_of_guard b xs g v)))
 
 abbrev pub exits_of_arm : ℕ → List ℕ → OneArm → List (List ℕ) → List (List ℕ)
 exits_of_arm b xs x v =
-    put (number_of_pat x.pattern) (drop (length xs) (bind x.pattern xs)) (exits b (bind x.pattern xs) x.value (exits_of_guard b (bind x.pattern xs) x.guard v))
+    put (number_of_pat x.pattern) (drop (length xs) (bind x.pattern xs)) (exits b (bind x.pattern xs) x.value (exits_of_guard b xs x.guard v))
 
 abbrev pub exits_of_block : ℕ → List ℕ → ℕ → Terms → List (List ℕ) → List (List ℕ)
 exits_of_block b xs n es v = put n (drop (length xs) (declare_all es xs)) (exits_in b xs es v)

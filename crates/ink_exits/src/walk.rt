@@ -225,7 +225,7 @@ fn walk_guard(
     }
 }
 
-/// Adds the exits of an arm, whose own end leaves what its pattern binds.
+/// Adds the exits of an arm, whose own end leaves what its pattern binds. In its guard nothing is bound yet.
 #[cycle(walk)]
 #[tactic(auto, using(crate::proofs::Kept::bound_kept, crate::proofs::Kept::pattern_number))]
 fn walk_arm(
@@ -240,9 +240,9 @@ fn walk_arm(
     ensures found { OnOk result (exits.new ≡ spec.exits_of_arm base scope.old.items (view.arm arena.now arm) exits.old) }
     ensures scope { OnOk result (scope.new.items ≡ scope.old.items) }
 {
+    walk_guard(arena, parent, base, arm.guard, scope, exits)?;
     let before = scope.len();
     bind(arena, arm.pattern, scope)?;
-    walk_guard(arena, parent, base, arm.guard, scope, exits)?;
     walk(arena, arm.value, base, scope, exits)?;
     exits.put(arm.pattern, behind(scope, before))?;
     scope.truncate(before);

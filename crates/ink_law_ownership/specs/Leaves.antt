@@ -47,7 +47,8 @@ pub record IsTree (parcel : Parcel) : Type 0 where
   pub owned : AreOwnedOnce parcel.values parcel.objects
   pub tree : (id : ObjectId) → IsSome (get parcel.objects id) → InTree (fields_in parcel.objects) parcel.values id
 
--- a parcel that goes out is a tree, and the process stays as it was where none goes out
+-- a parcel that goes out is a tree, and the process stays as it was where none goes out. That the steps are at their limit
+-- is told before a step, and by none
 abbrev pub Gives : Stepped → Process → Process → Type 0
 Gives Went p q = Unit {0}
 Gives (Wants (action.Spawn kind parcel)) p q = IsTree parcel
@@ -60,7 +61,7 @@ Gives (Wants (action.BreakFuture future)) p q = q ≡ p
 Gives (Wants (action.GetFuture future)) p q = q ≡ p
 Gives (Wants (action.Panic text)) p q = q ≡ p
 Gives (Panics text) p q = q ≡ p
-Gives (Spent steps) p q = q ≡ p
+Gives (Spent steps) p q = ⊥
 
 -- the objects that a reply brings
 abbrev pub brought : Reply → Objects

@@ -1,8 +1,8 @@
 -- What a process of a run comes to next by steps of its own, and whether that can be made.
-use Rattle.std.specs.Prelude.{◌≡◌, ℕ, true, false, Some, List, ◌⊎◌}
-use Rattle.ink_base.specs.Actions.{Action, Take, GetFuture, is_enabled}
+use Rattle.std.specs.Prelude.{◌≡◌, ◌<◌, ℕ, true, false, None, Some, List, [], ◌∷◌, ◌++◌, ◌⊎◌}
+use Rattle.ink_base.specs.Actions.{Action, Take, GetFuture, as_made, is_enabled}
 use Rattle.ink_base.specs.Numbered.{numbered}
-use Rattle.ink_law_turns.specs.Machines.{Machine, ComesTo, steps_on}
+use Rattle.ink_law_turns.specs.Machines.{Machine, ComesTo, Fails, steps_on}
 use Rattle.ink_law_turns.specs.Turns.{Run, Turn}
 
 -- the next action of a process is this one
@@ -39,6 +39,31 @@ pub record IsSpent {P V : Type 0} (m : Machine P V) (run : Run P V) (process ste
   pub stands : numbered run.processes process ≡ Some p
   pub q : P
   pub goes : steps_on m steps p ≡ Some q
+
+-- each process is at a take, and has no unread message
+abbrev pub AllAtTake : {P V : Type 0} → Machine P V → Run P V → Type 0
+AllAtTake {P} m run = (process : ℕ) (p : P) → numbered run.processes process ≡ Some p → IsAtTake m run process
+
+-- each process waits, and this is the least that is at a get
+pub record IsLeastAtGet {P V : Type 0} (m : Machine P V) (run : Run P V) (process : ℕ) : Type 0 where
+  pub waits : (other : ℕ) (p : P) → numbered run.processes other ≡ Some p → Waits m run other
+  pub get : IsAtGet m run process
+  pub least : (other : ℕ) (p : P) → numbered run.processes other ≡ Some p → other < process → IsAtTake m run other
+
+-- the last entry of a journal is a panic of this process
+pub record PanickedLast {P V : Type 0} (journal : List ℕ) (run : Run P V) (process : ℕ) : Type 0 where
+  pub earlier : List ℕ
+  pub last : journal ≡ earlier ++ process ∷ []
+  pub text : List ℕ
+  pub panic : run.panic ≡ Some (process, text)
+
+-- it goes wrong: after steps of its own the next one can't be made, or the reply to its next action, which can be made,
+-- can't be put
+pub data GoesWrong {P V : Type 0} (m : Machine P V) (limits : List ℕ) (run : Run P V) (process : ℕ) : Type 0 where
+  at_step : (p q : P) (steps : ℕ) → numbered run.processes process ≡ Some p → steps_on m steps p ≡ Some q → m.step q ≡ Fails
+      → GoesWrong m limits run process
+  at_reply : (wish : Action V) → (next : IsNext m run process wish) → is_enabled wish process run.shared ≡ true
+      → m.left (as_made wish run.shared limits) process run.shared next.waiting ≡ None → GoesWrong m limits run process
 
 -- it makes no turn
 abbrev pub HasNoTurn : {P V : Type 0} → Machine P V → List ℕ → Run P V → ℕ → Type 0

@@ -5,4 +5,6 @@
 
 mod laws;
 
-pub use laws::{next_stands, statuses_tell_next, waiting_makes_no_turn};
+pub use laws::{
+    ends_tell_next, next_stands, statuses_tell_next, waiting_makes_no_turn, wrong_stands,
+};

@@ -1,9 +1,11 @@
 -- A process of a code that comes home to its world.
-use Rattle.std.specs.Prelude.{◌≡◌, ◌≢◌, ℕ, ◌+◌, Some, IfSome, IsSome, List, length}
+use Rattle.std.specs.Prelude.{◌≡◌, ◌≢◌, ◌≤◌, ℕ, ◌+◌, Some, IfSome, IsSome, List, length}
 use Rattle.std.specs.FinMap.{get}
 use Rattle.ink_base.specs.declared.ident.ObjectId.{ObjectId}
+use Rattle.ink_base.specs.declared.limits.Limit.TheVariants as limit
 use Rattle.ink_base.specs.Actions.{Action, SharedState}
 use Rattle.ink_base.specs.Actions as action
+use Rattle.ink_base.specs.Limits.{limit_of}
 use Rattle.ink_base.specs.Messages.{front_of}
 use Rattle.ink_base.specs.Numbered.{numbered}
 use Rattle.ink_base.specs.Objects.{Objects}
@@ -33,7 +35,8 @@ pub record ComesHome (code : Code) (limits : List ℕ) (state : State Process Pa
   pub lent : numbered state.statuses process ≡ Some (Out seat ran)
   pub before : Process
   pub stood : StandsAt (code_machine code limits) limits (opening_run code) state.journal process before
-  pub from : ComesFrom (code_machine code limits) before came p
+  pub within : before.ran ≤ limit_of limit.Local limits
+  pub from : ComesFrom (code_machine code limits) limits before came p
 
 -- the objects that the reply of an action brings have other names than these
 abbrev pub IsApartFor : Action Parcel → ℕ → SharedState Parcel → Objects → Type 0

@@ -1,12 +1,11 @@
 //! Choices: what is done between the parts of a `Match`.
 
 use crate::exits::leave;
-use crate::room::Room;
-use crate::work::{Guard, Work, add_hole};
 use ink_arms::{Fits, bind, test};
 use ink_code::Instr;
 use ink_emit::{Given, Holding, Hole, LowerFault};
 use ink_forms::{Arm, ExprId};
+use ink_operations::{Guard, Room, Work, add_hole};
 
 /// What is matched, and where the arms put their values.
 #[derive(Clone, Copy)]

@@ -1,19 +1,16 @@
 //! Exits: what they leave is dropped.
 
-use crate::room::{Around, Owner, Room, Turn};
-use crate::work::{Work, add_hole};
-use crate::writes::dropped;
+use crate::around::{Around, Turn};
 use ink_code::Instr;
 use ink_emit::{Given, Hole, LowerFault};
 use ink_forms::ExprId;
+use ink_operations::{Owner, Room, Work, add_hole, dropped};
 
-/// Drops the variables that an exit leaves and that hold a value there, the last declared first. What a guard sees as a
-/// view isn't bound yet: it goes with what is matched.
+/// Drops the variables that an exit leaves and that hold a value there, the last declared first.
 pub(crate) fn leave(room: &Room, work: &mut Work, exit: u32, line: u32) -> Result<(), LowerFault> {
     let planned = room.plan.at(room.context.alloc, exit)?;
     for planned in &planned {
-        let is_view = work.guard_of(planned.variable).is_some();
-        if !is_view && !room.is_value(planned.variable) {
+        if !room.is_value(planned.variable) {
             let from = room.register(planned.variable);
             work.body.emit(line, dropped(planned.how, from))?;
         }

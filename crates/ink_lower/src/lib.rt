@@ -1,21 +1,15 @@
-//! The walk over the expressions of a method, which gives each form its code.
+//! The walk over the expressions of a method, in the order of work: choices, loops and exits, and how control goes from one
+//! form to the next.
 //!
-//! One function a form, in the order of work: what is held for later stands in registers above the variables, and where
-//! control leaves something, what the drop plan says is dropped. Patterns are tested and bound by the room below, which
-//! knows no expressions. How a plan is found, and what a code is made of beside its methods, is not known here.
+//! Where control leaves something, what the drop plan says is dropped. What a form comes to once its operands were worked
+//! is said by `ink_operations`, and how patterns are tested and bound by `ink_arms`. How a plan is found, and what a code is
+//! made of beside its methods, is not known here.
 #![tactic(auto)]
 
-mod calls;
+mod around;
 mod choices;
 mod exits;
-mod makes;
 mod method;
-mod names;
-mod paths;
-mod receivers;
-mod room;
 mod walk;
-mod work;
-mod writes;
 
 pub use method::lower_method;

@@ -1,15 +1,15 @@
 //! One method.
 
+use crate::around::Around;
 use crate::exits::leave_method;
-use crate::room::{Around, Owner, Room};
 use crate::walk::walk;
-use crate::work::Work;
 use ink_arms::Context;
 use ink_base::Text;
 use ink_code::Method;
 use ink_emit::{Given, LowerFault, Unsound};
 use ink_forms::{Expr, ExprId, Mode};
 use ink_names::{Home, KindId, KindName, MethodEntry, MethodNumber};
+use ink_operations::{Owner, Room, Work};
 use ink_plan::DropPlan;
 use std::alloc::AllocError;
 

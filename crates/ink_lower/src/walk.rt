@@ -2,20 +2,19 @@
 ghost use Rattle.std.specs.Prelude.{◌<◌, IfSome};
 ghost use Rattle.ink_forms.specs.Views as view;
 
-use crate::calls::{called_on, give_call, give_listed};
+use crate::around::{Around, Turn};
 use crate::choices::{
     Chain, Matched, begin, begin_guard, bind_arm, end_arm, end_choice, end_false_side, end_guard,
     join_arm, joined, no_arms, try_arm,
 };
 use crate::exits::{end_loop, give_break, give_next, give_return, give_up, leave};
-use crate::makes::give_new;
-use crate::names::{give_literal, give_self, give_variable};
-use crate::paths::{Root, give_borrow, give_field, hold_root, is_late, root_of};
-use crate::room::{Around, Room, Turn};
-use crate::work::Work;
-use crate::writes::{put_declared, write_field, write_variable};
 use ink_emit::{Given, Holding, LowerFault};
 use ink_forms::{Arm, Binding, Children, Choice, Expr, ExprId};
+use ink_operations::{
+    Room, Root, Work, called_on, give_borrow, give_call, give_field, give_listed, give_literal,
+    give_new, give_self, give_variable, hold_root, is_late, put_declared, root_of, write_field,
+    write_variable,
+};
 
 /// The code of an expression.
 #[cycle(walk)]

@@ -59,7 +59,7 @@ module _ (code : Code) (limits : List ℕ) (process : ℕ) (wish : Action Parcel
 
   pub makes_acts : (answer : Answer) (new : CodeState) → is_enabled wish process old.shared ≡ true → full_in old ≡ false → panic_of wish old.shared limits ≡ None → MakesBy code limits wish process p old new answer → ActsBy code limits wish process p old new answer
   makes_acts a.Wrong new enabled full whole makes =
-      (subst (λ (one : Action Parcel). process_after code one process old.shared p ≡ None) (sym (ap (λ (o : Option (List ℕ)). panic_or o wish) whole)) makes.0, makes.1)
+      ((enabled, subst (λ (one : Action Parcel). process_after code one process old.shared p ≡ None) (sym (ap (λ (o : Option (List ℕ)). panic_or o wish) whole)) makes.0), makes.1)
   makes_acts a.Kept new enabled full whole makes = made_acts w.Kept new enabled full whole makes
   makes_acts a.Moved new enabled full whole makes = made_acts w.Moved new enabled full whole makes
   makes_acts (a.Printed text) new enabled full whole makes = made_acts w.Moved new enabled full whole makes

@@ -3,6 +3,7 @@ pub mod EntriesLemmas
 pub mod ExchangeLemmas
 pub mod HomesLemmas
 pub mod MakingLemmas
+pub mod MeaningLemmas
 pub mod OthersLemmas
 pub mod SettlingLemmas
 pub mod Slices

@@ -101,7 +101,7 @@ module _ (code : Code) (process : ℕ) (came : OneCame) (p : Process) (old new :
       record {
         ran = coming.ran;
         lent = lent;
-        comes = subst (λ (ns : List ℕ). ComesOn code ns new.journal.entries other one q) (sym limits) (record { before = coming.comes.before; stood = stood; from = coming.comes.from });
+        comes = subst (λ (ns : List ℕ). ComesOn code ns new.journal.entries other one q) (sym limits) (record { before = coming.comes.before; stood = stood; within = coming.comes.within; from = coming.comes.from });
       }
 
   -- by what is left where the code is wrong

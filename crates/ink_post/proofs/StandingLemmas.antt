@@ -1,8 +1,10 @@
 -- A world that is kept stays ahead of its journal, and what a process that comes home brings.
-use Rattle.std.proofs.Common.{◌≡◌, ℕ, ◌+◌, Option, None, Some, Result, Ok, Err, List, [], refl, ap, sym, ◌∙◌, subst}
+use Rattle.std.proofs.Common.{◌≡◌, ◌≤◌, ℕ, ◌+◌, Option, None, Some, Result, Ok, Err, List, [], refl, ap, sym, ◌∙◌, subst}
+use Rattle.ink_base.specs.declared.limits.Limit.TheVariants as limit
 use Rattle.ink_base.specs.Actions.{Action, SharedState}
 use Rattle.ink_base.specs.Actions as action
 use Rattle.ink_base.specs.Futures.{Futures}
+use Rattle.ink_base.specs.Limits.{limit_of}
 use Rattle.ink_base.specs.Messages.{Mail}
 use Rattle.ink_base.specs.Numbered.{numbered}
 use Rattle.ink_base.specs.Objects.{Objects}
@@ -65,6 +67,7 @@ module _ (code : Code) (post : Post) (process seat : ℕ) (came : OneCame) (p : 
     lent = coming.lent;
     before = coming.comes.before;
     stood = coming.comes.stood;
+    within = coming.comes.within;
     from = subst (λ (o : Option (Came Parcel)). ComesAs code post.limits coming.comes.before o p) is coming.comes.from;
   }
 
@@ -87,7 +90,7 @@ module _ (code : Code) (post : Post) (process seat : ℕ) (came : OneCame) (p : 
   stays_some : (output : List ℕ) (one : Came Parcel) (answer : w.Answer) (new : CodeState) → told_came came ≡ Some one → StandsAfter code post output → ChecksIn (code_machine code post.limits) post.limits process one p (world_of post output) answer new → StandsForCode code post.limits new
   stays_some output one answer new is stands checks =
       let home = home_as output one is in
-      checks_in (code_machine code post.limits) post.limits (opening_run code) (code_is_counted code post.limits) (world_of post output) stands process seat home.ran home.lent home.before p home.stood one answer new home.from checks
+      checks_in (code_machine code post.limits) post.limits (opening_run code) (code_is_counted code post.limits) (world_of post output) stands process seat home.ran home.lent home.before p home.stood home.within one answer new home.from checks
 
   abbrev Checks : Post → Option (Came Parcel) → Answer → Type 0
   Checks new o answer = (output : List ℕ) → ChecksBy code post.limits process o p (world_of post output) (world_of new (with_line answer output)) answer
@@ -136,6 +139,7 @@ lent_is code process seat old new p limits lends stands =
       lent = ap (λ (s : CodeState). numbered s.statuses process) l.2 ∙ numbered-set_same old.statuses.items process (Out seat p.ran) Ready l.0;
       stood = subst (λ (js : List ℕ). StandsAt (code_machine code new.limits) new.limits (opening_run code) js process p) (sym (ap (λ (s : CodeState). s.journal) l.2))
           (subst (λ (ns : List ℕ). StandsAt (code_machine code ns) ns (opening_run code) old.journal.entries process p) (sym limits) out.1);
+      within = subst (λ (ns : List ℕ). p.ran ≤ limit_of limit.Local ns) (sym limits) out.2;
     }
 
 pub lends_stands : (code : Code) (process seat : ℕ) (old new : Post) (p : Process) → new.limits ≡ old.limits → Lends process seat old new p → Stands code old → Stands code new
@@ -174,7 +178,7 @@ coming_again code old new process seat came p fault limits coming checks =
       lent = ap (λ (s : CodeState). numbered s.statuses process) e ∙ coming.lent;
       comes = subst (λ (js : List ℕ). ComesOn code new.limits js process c.GivesUp (state_of fault.proc)) (sym (ap (λ (s : CodeState). s.journal) e))
           (subst (λ (ns : List ℕ). ComesOn code ns old.journal.entries process c.GivesUp (state_of fault.proc)) (sym limits)
-          (record { before = coming.comes.before; stood = coming.comes.stood; from = subst (λ (q : Process). IsLike (code_machine code old.limits) q coming.comes.before) (sym checks.0.1) (like_before code old process seat came p coming (told_came came) checks.1 coming.comes.from) }));
+          (record { before = coming.comes.before; stood = coming.comes.stood; within = coming.comes.within; from = subst (λ (q : Process). IsLike (code_machine code old.limits) q coming.comes.before) (sym checks.0.1) (like_before code old process seat came p coming (told_came came) checks.1 coming.comes.from) }));
     }
 
 -- the world is ahead of its journal still, unless the code was found wrong

@@ -10,21 +10,23 @@ use Rattle.ink_law_runs.specs.CodeMachine.{code_machine, opening_run}
 use Rattle.ink_law_runs.proofs.Counted.{code_is_counted}
 use Rattle.ink_law_turns.specs.Machines.{Machine}
 use Rattle.ink_law_worlds.specs.Coming.{StandsForCode}
-use Rattle.ink_post.specs.Answers.{ActsAs, ChecksBy, ChecksHome, FitsNowhere, GoesAs, Lends, StaysAhead, told_answer, with_line}
+use Rattle.ink_post.specs.Answers.{ActsAs, ChecksBy, ChecksHome, FitsNowhere, GoesAs, Lends, StaysAhead, TellsWrong, told_answer, with_line, wrong_by}
 use Rattle.ink_post.specs.Asks.{ComesAs, IsComing, IsLent, came_with, has_memory, told_came}
 use Rattle.ink_post.specs.Entries.{entries_by}
-use Rattle.ink_post.specs.Turning.{LooksAs, LooksOn, Rests, Sees, SeesBy, SeesWish}
+use Rattle.ink_post.specs.Turning.{LooksAs, LooksOn, Rests, Sees, SeesBy, SeesWish, SeesWrong, wrong_seen}
 use Rattle.ink_post.specs.Worlds.{CodeState, Same, StandsAfter, world_of}
 use Rattle.ink_post.specs.declared.answer.ActFault.{ActFault}
 use Rattle.ink_post.specs.declared.answer.Answer.{Answer}
 use Rattle.ink_post.specs.declared.answer.Answer.TheVariants as a
 use Rattle.ink_post.specs.declared.answer.Came.{Came as OneCame}
 use Rattle.ink_post.specs.declared.answer.Came.TheVariants as c
+use Rattle.ink_post.specs.declared.answer.End.TheVariants as end
 use Rattle.ink_post.specs.declared.answer.Looked.{Looked}
 use Rattle.ink_post.specs.declared.answer.Looked.TheVariants as looked
 use Rattle.ink_post.specs.declared.post.Post.{Post}
 use Rattle.ink_post.proofs.ActingLemmas.{acts_waits}
 use Rattle.ink_post.proofs.EntriesLemmas.{Halts, checks_halts}
+use Rattle.ink_post.proofs.MeaningLemmas.{ends_same}
 use Rattle.ink_post.proofs.Slices.{comes_by}
 use Rattle.ink_post.proofs.StandingLemmas.{coming_is, lends_standing}
 use Rattle.ink_steps.specs.Answers.{action_of}
@@ -95,6 +97,22 @@ module _ (code : Code) (process : ℕ) (p : Process) (old new : Post) where
   rests_by one quiet a.JournalFull checks stays = absurd (not_kept one quiet w.Full [] [] (λ e. cc) (checks []))
   rests_by one quiet (a.Spent steps) checks stays = absurd (not_kept one quiet (w.Over steps) [] [] (λ e. cc) (checks []))
   rests_by one quiet a.Wrong checks stays = absurd (fits_none one (world_of old []) quiet (checks []).0)
+
+  kept_wrong : (one : Came Parcel) → IsQuiet one → (answer : Answer) (before : Option ℕ) → Checks one answer → wrong_by answer process before ≡ before
+  kept_wrong one quiet a.Kept before checks = refl
+  kept_wrong one quiet a.Moved before checks = refl
+  kept_wrong one quiet (a.Printed text) before checks = refl
+  kept_wrong one quiet a.Waits before checks = refl
+  kept_wrong one quiet a.Panicked before checks = refl
+  kept_wrong one quiet a.JournalFull before checks = refl
+  kept_wrong one quiet (a.Spent steps) before checks = refl
+  kept_wrong one quiet a.Wrong before checks = absurd (fits_none one (world_of old []) quiet (checks []).0)
+
+  pub went_wrong : (answer : Answer) (before : Option ℕ) → ChecksHome code process c.Went p old new (Ok answer) → wrong_by answer process before ≡ before
+  went_wrong answer before checks = kept_wrong w.Went tt answer before checks
+
+  pub given_wrong : (answer : Answer) (before : Option ℕ) → ChecksHome code process c.GivesUp p old new (Ok answer) → wrong_by answer process before ≡ before
+  given_wrong answer before checks = kept_wrong w.GivesUp tt answer before checks
 
   pub went_rests : (answer : Answer) → ChecksHome code process c.Went p old new (Ok answer) → StaysAhead code old new answer → Rests code old new
   went_rests answer checks stays = rests_by w.Went tt answer checks stays
@@ -173,7 +191,7 @@ went_without (Err fault.OutOfMemory) e = refl
 pub coming_from : (code : Code) (post : Post) (process turns : ℕ) (p q : Process) (stepped : Result Stepped StepFault) (came : OneCame) → IsLent code post process process p → AnswersSlice turns code post.limits stepped p q → came ≡ came_with stepped → IsComing code post process process came q
 coming_from code post process turns p q stepped came lent sliced is =
     subst (λ (x : OneCame). IsComing code post process process x q) (sym is)
-    (coming_is code post process process turns p q stepped lent sliced (comes_by code post.limits post.journal.entries process turns p q stepped lent.stood sliced))
+    (coming_is code post process process turns p q stepped lent sliced (comes_by code post.limits post.journal.entries process turns p q stepped lent.stood lent.within sliced))
 
 -- what a look leaves
 module _ (code : Code) (process : ℕ) (came : OneCame) (q : Process) (post new : Post) (coming : IsComing code post process process came q) (limits : new.limits ≡ post.limits) (goes : post.halt ≡ None) (seen : Looked) where
@@ -183,10 +201,10 @@ module _ (code : Code) (process : ℕ) (came : OneCame) (q : Process) (post new 
   abbrev before : Process
   before = coming.comes.before
 
-  stands_from : (one : Came Parcel) (answer : w.Answer) → ComesFrom machine before one q → (output : List ℕ) → ChecksInBy machine post.limits process one q (world_of post output) None answer (world_of new output) → StandsAfter code post output → StandsAfter code new output
+  stands_from : (one : Came Parcel) (answer : w.Answer) → ComesFrom machine post.limits before one q → (output : List ℕ) → ChecksInBy machine post.limits process one q (world_of post output) None answer (world_of new output) → StandsAfter code post output → StandsAfter code new output
   stands_from one answer from output checks stands =
       subst (λ (ns : List ℕ). StandsForCode code ns (world_of new output)) (sym limits)
-      (checks_in machine post.limits (opening_run code) (code_is_counted code post.limits) (world_of post output) stands process process coming.ran coming.lent before q coming.comes.stood one answer (world_of new output) from
+      (checks_in machine post.limits (opening_run code) (code_is_counted code post.limits) (world_of post output) stands process process coming.ran coming.lent before q coming.comes.stood coming.comes.within one answer (world_of new output) from
       (subst (λ (o : Option Halt). ChecksInBy machine post.limits process one q (world_of post output) o answer (world_of new output)) (sym goes) checks))
 
   told_as : (made : Looked) → seen ≡ made → LooksOn code process post new made → LooksOn code process post new seen
@@ -195,10 +213,10 @@ module _ (code : Code) (process : ℕ) (came : OneCame) (q : Process) (post new 
   rests_as : ((output : List ℕ) → StandsAfter code post output → StandsAfter code new output) → (made : CodeState) → world_of new [] ≡ made → made.journal ≡ post.journal.entries → made.halt ≡ post.halt → Rests code post new
   rests_as stands made is journal halt = record { stands = stands; entries = ap (λ (s : CodeState). s.journal) is ∙ journal; halt = ap (λ (s : CodeState). s.halt) is ∙ halt }
 
-  pub went_looks : ((output : List ℕ) → world_of new output ≡ w.back_in process q Ready (world_of post output)) → ComesFrom machine before w.Went q → Rests code post new
+  pub went_looks : ((output : List ℕ) → world_of new output ≡ w.back_in process q Ready (world_of post output)) → ComesFrom machine post.limits before w.Went q → Rests code post new
   went_looks is from = rests_as (λ output stands. stands_from w.Went w.Kept from output (refl, is output) stands) (w.back_in process q Ready (world_of post [])) (is []) refl refl
 
-  wish_stands : (wish : Action Parcel) → ComesFrom machine before (w.Wants wish) q → (output : List ℕ) (enabled : Bool) → is_enabled wish process (world_of post output).shared ≡ enabled → SeesWish process wish q (world_of post output) enabled (world_of new output) seen → StandsAfter code post output → StandsAfter code new output
+  wish_stands : (wish : Action Parcel) → ComesFrom machine post.limits before (w.Wants wish) q → (output : List ℕ) (enabled : Bool) → is_enabled wish process (world_of post output).shared ≡ enabled → SeesWish process wish q (world_of post output) enabled (world_of new output) seen → StandsAfter code post output → StandsAfter code new output
   wish_stands wish from output true is sees stands = stands_from w.GivesUp w.Kept ((code_is_counted code post.limits).waits before q wish from) output (refl, sees.1) stands
   wish_stands wish from output false is sees stands =
       stands_from (w.Wants wish) w.Waits from output (acts_waits code post.limits process wish q (world_of post output) (world_of new output) is sees.1) stands
@@ -244,6 +262,23 @@ goes_as code process turns p q old new stepped came answer all sliced is checks 
   stays = stays;
 }
 
+-- a code that was found wrong is so after the journal before
+pub tells_behind : (code : Code) (process : ℕ) (old middle : Post) (answer : Answer) → Rests code old middle → middle.limits ≡ old.limits → TellsWrong code process middle answer → TellsWrong code process old answer
+tells_behind code process old middle a.Kept rests limits tells = tt
+tells_behind code process old middle a.Moved rests limits tells = tt
+tells_behind code process old middle (a.Printed text) rests limits tells = tt
+tells_behind code process old middle a.Waits rests limits tells = tt
+tells_behind code process old middle a.Panicked rests limits tells = tt
+tells_behind code process old middle a.JournalFull rests limits tells = tt
+tells_behind code process old middle (a.Spent steps) rests limits tells = tt
+tells_behind code process old middle a.Wrong rests limits tells = ends_same code old.limits middle.limits old.journal.entries middle.journal.entries (end.Wrong process) limits rests.entries tells
+
+pub sees_behind : (code : Code) (process : ℕ) (old middle : Post) (seen : Looked) → Rests code old middle → middle.limits ≡ old.limits → SeesWrong code process middle seen → SeesWrong code process old seen
+sees_behind code process old middle looked.Enabled rests limits sees = tt
+sees_behind code process old middle looked.Waits rests limits sees = tt
+sees_behind code process old middle (looked.Spent steps) rests limits sees = tt
+sees_behind code process old middle looked.Wrong rests limits sees = ends_same code old.limits middle.limits old.journal.entries middle.journal.entries (end.Wrong process) limits rests.entries sees
+
 module _ (code : Code) (process : ℕ) (p : Process) (old middle new : Post) (limits : middle.limits ≡ old.limits) (lends : Lends process process old middle p) where
   pub acts_as : (result : Result Answer ActFault) → IfOk result (λ answer. GoesAs code process p middle new answer) → IfOk result (λ answer. ActsAs code process old new answer)
   acts_as (Ok answer) goes = record { p = p; middle = middle; lends = lends; limits = limits; goes = goes }
@@ -258,6 +293,14 @@ module _ (code : Code) (process : ℕ) (p : Process) (old middle new : Post) (li
       checks_add code middle.limits process goes.q (world_of middle []) (world_of new (with_line answer [])) (told_came (came_with goes.stepped)) answer (goes.checks [])
       ∙ ap (λ (js : List ℕ). entries_by (told_answer answer) process js) (lends_rests code process process old middle p limits lends).entries
   acts_adds (Err why) goes = tt
+
+  pub acts_tells : (result : Result Answer ActFault) → IfOk result (λ answer. TellsWrong code process middle answer) → IfOk result (λ answer. TellsWrong code process old answer)
+  acts_tells (Ok answer) tells = tells_behind code process old middle answer (lends_rests code process process old middle p limits lends) limits tells
+  acts_tells (Err why) tells = tt
+
+  pub looks_tells : (result : Result Looked ActFault) → IfOk result (λ seen. SeesWrong code process middle seen) → IfOk result (λ seen. SeesWrong code process old seen)
+  looks_tells (Ok seen) sees = sees_behind code process old middle seen (lends_rests code process process old middle p limits lends) limits sees
+  looks_tells (Err why) sees = tt
 
   pub acts_fails : (result : Result Answer ActFault) → OnErr result (Rests code middle new) → OnErr result (Rests code old new)
   acts_fails (Ok answer) fails = tt
@@ -301,6 +344,12 @@ without_rests code process (c.Wants wish) q old new coming limits goes seen is s
 without_rests code process (c.Panics text) q old new coming limits goes seen is sees = absurd (cc)
 without_rests code process (c.Spent steps) q old new coming limits goes seen is sees = absurd (cc)
 without_rests code process c.Wrong q old new coming limits goes seen is sees = absurd (cc)
+
+-- and nothing was found wrong
+pub without_wrong : (process : ℕ) (came : OneCame) (q : Process) (old new : CodeState) (seen : Looked) (before : Option ℕ) → came ≡ c.Went → SeesBy process (told_came came) q old new seen → wrong_seen seen process before ≡ before
+without_wrong process came q old new seen before is sees =
+    let told : SeesBy process (Some w.Went) q old new seen = subst (λ (x : OneCame). SeesBy process (told_came x) q old new seen) is sees in
+    ap (λ (s : Looked). wrong_seen s process before) told.0
 
 -- a process that was lent was ready: only memory was missing
 pub memory_faults : {T : Type 0} (process seat : ℕ) (p : Process) (old middle : Post) (result : Result T ActFault) → Lends process seat old middle p → IfErr result (λ why. why ≡ missing.OutOfMemory) → IfErr result (λ why. FaultsBy process old why)

@@ -1,6 +1,6 @@
 -- What the calls of a world answer, in the words of worlds as plain data.
 use Rattle.std.specs.Prelude.{◌≡◌, ◌≢◌, ◌^◌, ◌-◌, ℕ, Bool, true, false, Option, None, Some, Result, Ok, Err, List, [], ◌∷◌, ◌++◌}
-use Rattle.ink_base.specs.Actions.{Action, as_made}
+use Rattle.ink_base.specs.Actions.{Action, as_made, is_enabled}
 use Rattle.ink_base.specs.Numbered.{numbered, set_numbered}
 use Rattle.ink_code.specs.declared.code.Code.{Code}
 use Rattle.ink_code.specs.Process.{Process}
@@ -13,9 +13,11 @@ use Rattle.ink_post.specs.declared.answer.Answer.{Answer}
 use Rattle.ink_post.specs.declared.answer.Answer.TheVariants as a
 use Rattle.ink_post.specs.declared.answer.Came.{Came as OneCame}
 use Rattle.ink_post.specs.declared.answer.CheckFault.{CheckFault}
+use Rattle.ink_post.specs.declared.answer.End.TheVariants as end
 use Rattle.ink_post.specs.declared.post.Post.{Post}
 use Rattle.ink_interp.specs.Slices.{AnswersSlice}
 use Rattle.ink_post.specs.Asks.{IsComing, came_with, told_came}
+use Rattle.ink_post.specs.Meaning.{Ends}
 use Rattle.ink_steps.specs.declared.stepped.StepFault.{StepFault}
 use Rattle.ink_steps.specs.declared.stepped.Stepped.{Stepped}
 use Rattle.ink_post.specs.Worlds.{CodeState, Same, Stands, StandsAfter, world_of}
@@ -87,21 +89,21 @@ Makes code made process p came old new (Ok answer) =
     (output : List ℕ) → MakesBy code old.limits made process p (world_of old output) (world_of new (with_line answer output)) answer
 Makes code made process p came old new (Err fault) = ComesBack old new p came fault
 
+-- the action can be made, and the reply to it fits nowhere
+abbrev pub FitsNowhere : Code → List ℕ → ℕ → Came Parcel → Process → CodeState → Type 0
+FitsNowhere code limits process (w.Wants wish) p old =
+    (is_enabled wish process old.shared ≡ true) × (process_after code (as_made wish old.shared limits) process old.shared p ≡ None)
+FitsNowhere code limits process other p old = ⊥
+
 -- what a wanted action came to. Else the code is wrong: the reply fits nowhere
 abbrev pub ActsBy : Code → List ℕ → Action Parcel → ℕ → Process → CodeState → CodeState → Answer → Type 0
-ActsBy code limits wish process p old new a.Wrong =
-    (process_after code (as_made wish old.shared limits) process old.shared p ≡ None) × IsLost process old new
+ActsBy code limits wish process p old new a.Wrong = FitsNowhere code limits process (w.Wants wish) p old × IsLost process old new
 ActsBy code limits wish process p old new answer = Acts (code_machine code limits) limits process wish p old (told_answer answer) new
 
 abbrev pub ActsOn : Code → Action Parcel → ℕ → Process → OneCame → Post → Post → Result Answer CheckFault → Type 0
 ActsOn code wish process p came old new (Ok answer) =
     (output : List ℕ) → ActsBy code old.limits wish process p (world_of old output) (world_of new (with_line answer output)) answer
 ActsOn code wish process p came old new (Err fault) = ComesBack old new p came fault
-
--- the reply to the action fits nowhere
-abbrev pub FitsNowhere : Code → List ℕ → ℕ → Came Parcel → Process → CodeState → Type 0
-FitsNowhere code limits process (w.Wants wish) p old = process_after code (as_made wish old.shared limits) process old.shared p ≡ None
-FitsNowhere code limits process other p old = ⊥
 
 -- what a check-in came to. A process whose code is wrong is gone
 abbrev pub ChecksBy : Code → List ℕ → ℕ → Option (Came Parcel) → Process → CodeState → CodeState → Answer → Type 0
@@ -146,6 +148,20 @@ OthersStay code process old new =
 abbrev pub StandsOn : Code → Post → Answer → Type 0
 StandsOn code new a.Wrong = Unit {0}
 StandsOn code new answer = Stands code new
+
+-- the last process whose code was found wrong, after an answer
+abbrev pub wrong_by : Answer → ℕ → Option ℕ → Option ℕ
+wrong_by a.Wrong process before = Some process
+wrong_by answer process before = before
+
+abbrev pub wrong_after : {F : Type 0} → Result Answer F → ℕ → Option ℕ → Option ℕ
+wrong_after (Ok answer) process before = wrong_by answer process before
+wrong_after (Err fault) process before = before
+
+-- a process whose code is found wrong goes wrong after the journal
+abbrev pub TellsWrong : Code → ℕ → Post → Answer → Type 0
+TellsWrong code process old a.Wrong = Ends code old.limits old.journal.entries (end.Wrong process)
+TellsWrong code process old answer = Unit {0}
 
 -- a lent process made a slice, and came home with what it came to
 pub record GoesAs (code : Code) (process : ℕ) (p : Process) (old new : Post) (answer : Answer) : Type 0 where

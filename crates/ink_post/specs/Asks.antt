@@ -1,13 +1,16 @@
 -- What is asked of a world before an action is made in it, and of a process that comes home.
 use Rattle.std.specs.Prelude.{◌≡◌, ◌+◌, ◌≤◌, ℕ, Bool, true, false, Option, None, Some, Result, Ok, Err, List, length, map}
+use Rattle.ink_base.specs.declared.limits.Limit.TheVariants as limit
 use Rattle.ink_base.specs.Actions.{Action, is_enabled, panic_of}
 use Rattle.ink_base.specs.Actions as action
+use Rattle.ink_base.specs.Limits.{limit_of}
 use Rattle.ink_base.specs.Numbered.{numbered}
 use Rattle.ink_code.specs.declared.code.Code.{Code}
 use Rattle.ink_code.specs.Process.{Process}
 use Rattle.ink_code.specs.Trees.{Parcel}
 use Rattle.ink_law_runs.specs.CodeMachine.{code_machine, opening_run}
 use Rattle.ink_law_turns.specs.Ahead.{StandsAt}
+use Rattle.ink_law_turns.specs.Machines.{Fails}
 use Rattle.ink_law_worlds.specs.Coming.{IsApartFor, IsFresh}
 use Rattle.ink_post.specs.declared.answer.Came.{Came as OneCame}
 use Rattle.ink_post.specs.declared.answer.Came.TheVariants as c
@@ -49,21 +52,23 @@ told_came (c.Panics text) = Some (Wants (action.Panic text))
 told_came (c.Spent steps) = Some (Spent steps)
 told_came c.Wrong = None
 
--- nothing is asked of a process whose instruction is wrong
+-- a process whose instruction is wrong can't make its next step, and nothing is asked of what is left of it
 abbrev pub ComesAs : Code → List ℕ → Process → Option (Came Parcel) → Process → Type 0
-ComesAs code limits before None p = Unit {0}
-ComesAs code limits before (Some came) p = ComesFrom (code_machine code limits) before came p
+ComesAs code limits before None p = (code_machine code limits).step before ≡ Fails
+ComesAs code limits before (Some came) p = ComesFrom (code_machine code limits) limits before came p
 
--- the process comes home from where it stands after a journal
+-- the process comes home from where it stands after a journal, within its limit of steps
 pub record ComesOn (code : Code) (limits journal : List ℕ) (process : ℕ) (came : OneCame) (p : Process) : Type 0 where
   pub before : Process
   pub stood : StandsAt (code_machine code limits) limits (opening_run code) journal process before
+  pub within : before.ran ≤ limit_of limit.Local limits
   pub from : ComesAs code limits before (told_came came) p
 
--- a process is lent under a seat, and stands as the journal leaves it
+-- a process is lent under a seat, and stands as the journal leaves it, within its limit of steps
 pub record IsLent (code : Code) (post : Post) (process seat : ℕ) (p : Process) : Type 0 where
   pub lent : numbered post.statuses.items process ≡ Some (Out seat p.ran)
   pub stood : StandsAt (code_machine code post.limits) post.limits (opening_run code) post.journal.entries process p
+  pub within : p.ran ≤ limit_of limit.Local post.limits
 
 -- with what a process comes home from a slice. Without memory it can go on
 abbrev pub came_with : Result Stepped StepFault → OneCame

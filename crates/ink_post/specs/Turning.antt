@@ -1,5 +1,5 @@
 -- What a turn and a look leave of the world.
-use Rattle.std.specs.Prelude.{◌≡◌, ◌^◌, ◌-◌, ℕ, Bool, true, false, Option, None, Some, Result, List}
+use Rattle.std.specs.Prelude.{◌≡◌, ◌^◌, ◌-◌, ℕ, Bool, true, false, Option, None, Some, Result, Ok, Err, List}
 use Rattle.ink_base.specs.Actions.{Action, is_enabled}
 use Rattle.ink_code.specs.declared.code.Code.{Code}
 use Rattle.ink_code.specs.Process.{Process}
@@ -7,9 +7,11 @@ use Rattle.ink_code.specs.Trees.{Parcel}
 use Rattle.ink_interp.specs.Slices.{AnswersSlice}
 use Rattle.ink_post.specs.Answers.{Lends}
 use Rattle.ink_post.specs.Asks.{NoneReady, came_with, told_came}
+use Rattle.ink_post.specs.Meaning.{Ends}
 use Rattle.ink_post.specs.Worlds.{CodeState, StandsAfter, world_of}
 use Rattle.ink_post.specs.declared.answer.ActFault.{ActFault}
 use Rattle.ink_post.specs.declared.answer.ActFault.TheVariants as fault
+use Rattle.ink_post.specs.declared.answer.End.TheVariants as end
 use Rattle.ink_post.specs.declared.answer.Looked.{Looked}
 use Rattle.ink_post.specs.declared.answer.Looked.TheVariants as looked
 use Rattle.ink_post.specs.declared.post.Post.{Post}
@@ -63,6 +65,20 @@ pub record LooksAs (code : Code) (process : ℕ) (old new : Post) (seen : Looked
   pub lends : Lends process process old middle p
   pub limits : middle.limits ≡ old.limits
   pub sees : Sees code process p middle new seen
+
+-- the last process whose code was found wrong, after a look
+abbrev pub wrong_seen : Looked → ℕ → Option ℕ → Option ℕ
+wrong_seen looked.Wrong process before = Some process
+wrong_seen seen process before = before
+
+abbrev pub wrong_after_look : {F : Type 0} → Result Looked F → ℕ → Option ℕ → Option ℕ
+wrong_after_look (Ok seen) process before = wrong_seen seen process before
+wrong_after_look (Err fault) process before = before
+
+-- a process whose code is found wrong goes wrong after the journal
+abbrev pub SeesWrong : Code → ℕ → Post → Looked → Type 0
+SeesWrong code process old looked.Wrong = Ends code old.limits old.journal.entries (end.Wrong process)
+SeesWrong code process old seen = Unit {0}
 
 -- why a process made no action: there is none that is at home and ready, or there was no memory
 abbrev pub FaultsBy : ℕ → Post → ActFault → Type 0

@@ -38,9 +38,10 @@ world_of post output =
 abbrev pub Same : Post → Post → Type 0
 Same old new = (output : List ℕ) → world_of new output ≡ world_of old output
 
--- the limits stay, and so does the room for more processes
+-- the limits stay, whose code was found wrong, and the room for more processes
 pub record Keeps (old new : Post) : Type 0 where
   pub limits : new.limits ≡ old.limits
+  pub wrong : new.wrong ≡ old.wrong
   pub homes : new.homes.spare ≡ old.homes.spare
   pub statuses : new.statuses.spare ≡ old.statuses.spare
   pub mail : new.mail.spare ≡ old.mail.spare
@@ -54,6 +55,7 @@ pub record OnlyMakesRoom (old new : Post) : Type 0 where
   pub journal : new.journal ≡ old.journal
   pub text : new.text ≡ old.text
   pub halt : new.halt ≡ old.halt
+  pub wrong : new.wrong ≡ old.wrong
   pub limits : new.limits ≡ old.limits
 
 -- only what the processes share changed
@@ -63,6 +65,7 @@ pub record OnlyShares (old new : Post) : Type 0 where
   pub journal : new.journal ≡ old.journal
   pub text : new.text ≡ old.text
   pub halt : new.halt ≡ old.halt
+  pub wrong : new.wrong ≡ old.wrong
   pub limits : new.limits ≡ old.limits
   pub room : new.mail.spare ≡ old.mail.spare
 

@@ -35,6 +35,7 @@ impl Post {
     pub(crate) fn wait(&mut self, process: u32, proc: Proc, wish: &Request)
         ensures after { (output : List ℕ) → world_of self.new output ≡ back_in process (state_of proc) (waits_at (action_of wish.now)) (world_of self.old output) }
         ensures limits { self.new.limits ≡ self.old.limits }
+        ensures wrong { self.new.wrong ≡ self.old.wrong }
     {
         self.come_home(process, proc, waits_at(wish));
     }
@@ -43,6 +44,7 @@ impl Post {
     fn fill(&mut self, process: u32, proc: Proc)
         ensures after { (output : List ℕ) → world_of self.new output ≡ halted (Events process) (back_in process (state_of proc) Stopped (world_of self.old output)) }
         ensures limits { self.new.limits ≡ self.old.limits }
+        ensures wrong { self.new.wrong ≡ self.old.wrong }
     {
         self.come_home(process, proc, Status::Stopped);
         self.halt = Some(Halt::Events(process));
@@ -53,6 +55,7 @@ impl Post {
         requires { 1 ≤ self.old.journal.spare }
         ensures after { (output : List ℕ) → world_of self.new output ≡ panicked process (state_of proc) text (world_of self.old output) }
         ensures limits { self.new.limits ≡ self.old.limits }
+        ensures wrong { self.new.wrong ≡ self.old.wrong }
     {
         proc.ran = 0;
         self.come_home(process, proc, Status::Stopped);
@@ -73,6 +76,7 @@ impl Post {
         requires brings { BringsApart (action_of wish) process (state_of proc) self.old }
         ensures acts { ActsOn code.now (action_of wish) process (state_of proc) (came.Wants wish) self.old self.new result }
         ensures limits { self.new.limits ≡ self.old.limits }
+        ensures wrong { self.new.wrong ≡ self.old.wrong }
     {
         if !self.is_enabled(process, &wish) {
             self.wait(process, proc, &wish);
@@ -110,6 +114,7 @@ impl Post {
         requires { GoesOn self.old }
         ensures acts { ActsOn code.now (Panic text) process (state_of proc) (came.Panics text) self.old self.new result }
         ensures limits { self.new.limits ≡ self.old.limits }
+        ensures wrong { self.new.wrong ≡ self.old.wrong }
     {
         if self.is_full() {
             self.fill(process, proc);

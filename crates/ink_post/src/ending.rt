@@ -1,8 +1,11 @@
 //! How a run stands: who is ready, who is lent, and how it ended.
-ghost use Rattle.std.specs.Prelude.{◌≡◌, ◌+◌, Some};
+ghost use Rattle.std.specs.Prelude.{◌≡◌, ◌+◌, None, Some, IfSome};
 ghost use Rattle.std.specs.List.{list_any, position};
 ghost use Rattle.std.specs.Option.{option_map};
+ghost use Rattle.ink_code.specs.declared.code.Code.{Code};
 ghost use Rattle.ink_post.specs.Ends.{end_by, end_in, rest_by, some_is_up};
+ghost use Rattle.ink_post.specs.Meaning.{Ends};
+ghost use Rattle.ink_post.specs.Worlds.{Stands};
 ghost use Rattle.ink_statuses.specs.Readings.{is_out, is_ready};
 ghost use Rattle.ink_worlds.specs.declared.halt.Halt.TheVariants.{SinkFailed};
 
@@ -66,7 +69,8 @@ impl Post {
 
     /// How the run ended. `None` where it goes on: a process is ready or lent, or stopped without an end.
     pub fn end(&self) -> Option<End>
-        ensures { result ≡ end_in self.now.halt self.now.wrong self.now.statuses.items }
+        ensures is { result ≡ end_in self.now.halt self.now.wrong self.now.statuses.items }
+        ensures means { (code : Code) → Stands code self.now → self.now.wrong ≡ None → IfSome result (λ end. Ends code self.now.limits self.now.journal.entries end) }
     {
         if let Some(halt) = self.halt {
             return Some(end_by(halt));

@@ -35,6 +35,7 @@ impl Post {
         ensures text { result.text ≡ None }
         ensures halt { result.halt ≡ None }
         ensures limits { result.limits ≡ limits }
+        ensures wrong { result.wrong ≡ None }
     {
         Post {
             homes: Numbered::new(alloc),
@@ -90,6 +91,7 @@ impl Post {
         ensures text { self.new.text ≡ self.old.text }
         ensures halt { self.new.halt ≡ self.old.halt }
         ensures limits { self.new.limits ≡ self.old.limits }
+        ensures wrong { self.new.wrong ≡ self.old.wrong }
     {
         self.homes.add(Some(proc));
         self.statuses.add();
@@ -113,6 +115,7 @@ impl Post {
     pub fn begin(alloc: Global, code: &Code, limits: Limits) -> Result<Post, AllocError>
         ensures begins { IfOk result (λ post. world_of post [] ≡ first_state (opening_run code.now)) }
         ensures limits { IfOk result (λ post. post.limits ≡ limits) }
+        ensures wrong { IfOk result (λ post. post.wrong ≡ None) }
     {
         let mut post = Post::empty(alloc, limits);
         post.reserve_process()?;
@@ -152,14 +155,13 @@ impl Post {
         self.statuses.set(process, status);
     }
 
-    /// A process is gone, since its code is wrong.
-    pub(crate) fn lose(&mut self, process: u32)
+    /// A process is gone, lent or not, and makes no further step. Nothing is asked of it, and all else stays.
+    pub fn abandon(&mut self, process: u32)
         ensures after { (output : List ℕ) → world_of self.new output ≡ put_in process None Stopped (world_of self.old output) }
         ensures keeps { Keeps self.old self.new }
     {
         self.homes.set(process, None);
         self.statuses.set(process, Status::Stopped);
-        self.wrong = Some(process);
     }
 
     /// The process goes home ready, and its entry is added.

@@ -47,7 +47,7 @@ impl Post {
                 true
             }
             Err(AnswerFault::Wrong(_)) => {
-                self.lose(process);
+                self.abandon(process);
                 false
             }
             Err(AnswerFault::OutOfMemory(_)) => unreachable!(),
@@ -59,6 +59,7 @@ impl Post {
         requires { CanMake action.Take process (state_of proc) self.old }
         ensures makes { Makes code.now action.Take process (state_of proc) (came.Wants request.Take) self.old self.new result }
         ensures limits { self.new.limits ≡ self.old.limits }
+        ensures wrong { self.new.wrong ≡ self.old.wrong }
     {
         let message = self.take_message(process);
         let (number, sender, method, parcel) = message.into_parts();
@@ -79,7 +80,7 @@ impl Post {
             }
             Err(AnswerFault::OutOfMemory(_)) => unreachable!(),
             Err(AnswerFault::Wrong(_)) => {
-                self.lose(process);
+                self.abandon(process);
                 Ok(Answer::Wrong)
             }
         }
@@ -96,6 +97,7 @@ impl Post {
         requires { CanMake (action.GetFuture future) process (state_of proc) self.old }
         ensures makes { Makes code.now (action.GetFuture future) process (state_of proc) (came.Wants (request.GetFuture future)) self.old self.new result }
         ensures limits { self.new.limits ≡ self.old.limits }
+        ensures wrong { self.new.wrong ≡ self.old.wrong }
     {
         let value = self.take_value(future);
         match answer(self.alloc, &mut proc, code, Reply::Got(value)) {
@@ -109,7 +111,7 @@ impl Post {
             }
             Err(AnswerFault::OutOfMemory(_)) => unreachable!(),
             Err(AnswerFault::Wrong(_)) => {
-                self.lose(process);
+                self.abandon(process);
                 Ok(Answer::Wrong)
             }
         }
@@ -120,6 +122,7 @@ impl Post {
         requires { CanMake (action.Print text) process (state_of proc) self.old }
         ensures makes { Makes code.now (action.Print text) process (state_of proc) (came.Wants (request.Print text)) self.old self.new (Ok result) }
         ensures limits { self.new.limits ≡ self.old.limits }
+        ensures wrong { self.new.wrong ≡ self.old.wrong }
     {
         if !self.finish(code, process, proc, Reply::Done) {
             return Answer::Wrong;
@@ -139,6 +142,7 @@ impl Post {
         requires { CanMake (action.Spawn kind fields) process (state_of proc) self.old }
         ensures makes { Makes code.now (action.Spawn kind fields) process (state_of proc) (came.Wants (request.Spawn kind fields)) self.old self.new result }
         ensures limits { self.new.limits ≡ self.old.limits }
+        ensures wrong { self.new.wrong ≡ self.old.wrong }
     {
         let number = self.next_number();
         if self.reserve_process().is_err() {
@@ -169,6 +173,7 @@ impl Post {
         requires { CanMake (action.Send to method values) process (state_of proc) self.old }
         ensures makes { Makes code.now (action.Send to method values) process (state_of proc) (came.Wants (request.Send to method values)) self.old self.new result }
         ensures limits { self.new.limits ≡ self.old.limits }
+        ensures wrong { self.new.wrong ≡ self.old.wrong }
     {
         if let Err(values) = self.deliver(process, to, method, values) {
             return Err(back(proc, Request::Send { to, method, values }));
@@ -185,6 +190,7 @@ impl Post {
         requires { CanMake action.NewFuture process (state_of proc) self.old }
         ensures makes { Makes code.now action.NewFuture process (state_of proc) (came.Wants request.NewFuture) self.old self.new result }
         ensures limits { self.new.limits ≡ self.old.limits }
+        ensures wrong { self.new.wrong ≡ self.old.wrong }
     {
         let Ok(number) = self.new_future() else {
             return Err(back(proc, Request::NewFuture));
@@ -207,6 +213,7 @@ impl Post {
         requires { CanMake (action.SetFuture future value) process (state_of proc) self.old }
         ensures makes { Makes code.now (action.SetFuture future value) process (state_of proc) (came.Wants (request.SetFuture future value)) self.old self.new (Ok result) }
         ensures limits { self.new.limits ≡ self.old.limits }
+        ensures wrong { self.new.wrong ≡ self.old.wrong }
     {
         let _ = self.futures.set(future, value);
         if !self.finish(code, process, proc, Reply::Done) {
@@ -221,6 +228,7 @@ impl Post {
         requires { CanMake (action.BreakFuture future) process (state_of proc) self.old }
         ensures makes { Makes code.now (action.BreakFuture future) process (state_of proc) (came.Wants (request.BreakFuture future)) self.old self.new (Ok result) }
         ensures limits { self.new.limits ≡ self.old.limits }
+        ensures wrong { self.new.wrong ≡ self.old.wrong }
     {
         self.futures.break_off(future);
         if !self.finish(code, process, proc, Reply::Done) {
@@ -241,6 +249,7 @@ impl Post {
         requires { CanMake (action_of wish) process (state_of proc) self.old }
         ensures makes { Makes code.now (action_of wish) process (state_of proc) (came.Wants wish) self.old self.new result }
         ensures limits { self.new.limits ≡ self.old.limits }
+        ensures wrong { self.new.wrong ≡ self.old.wrong }
     {
         match wish {
             Request::Take => self.make_take(code, process, proc),

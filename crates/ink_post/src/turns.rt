@@ -3,10 +3,10 @@ ghost use Rattle.std.specs.Prelude.{◌≡◌, ◌↔◌, ℕ, List, None, Some,
 ghost use Rattle.ink_base.specs.Actions.{Action};
 ghost use Rattle.ink_code.specs.declared.code.Code.{Code as OneCode};
 ghost use Rattle.ink_code.specs.Trees.{Parcel};
-ghost use Rattle.ink_post.specs.Answers.{ActsAs, ChecksHome, GoesAs, Lends, OthersStay, StandsOn, StaysAhead, told_answer};
+ghost use Rattle.ink_post.specs.Answers.{ActsAs, ChecksHome, GoesAs, Lends, OthersStay, StandsOn, StaysAhead, TellsWrong, told_answer, wrong_after, wrong_by};
 ghost use Rattle.ink_post.specs.Asks.{BringsApart, ComesOn, GoesOn, IsComing, IsLent, NoneReady, came_with, has_memory, told_came};
 ghost use Rattle.ink_post.specs.Entries.{entries_by};
-ghost use Rattle.ink_post.specs.Turning.{FaultsBy, LooksAs, LooksOn, Rests, Sees, SeesBy};
+ghost use Rattle.ink_post.specs.Turning.{FaultsBy, LooksAs, LooksOn, Rests, Sees, SeesBy, SeesWrong, wrong_after_look, wrong_seen};
 ghost use Rattle.ink_post.specs.Worlds.{Same, Stands, world_of};
 ghost use Rattle.ink_post.specs.declared.answer.ActFault.TheVariants as fault;
 ghost use Rattle.ink_post.specs.declared.answer.Came.TheVariants as home;
@@ -46,6 +46,16 @@ fn is_ready(status: Option<Status>) -> bool
     matches!(status, Some(Status::Ready))
 }
 
+/// The last process whose code was found wrong, after an answer.
+fn wrong_by(answer: &Answer, process: u32, before: Option<u32>) -> Option<u32>
+    ensures { result ≡ wrong_by answer.now process before }
+{
+    match answer {
+        Answer::Wrong => Some(process),
+        _ => before,
+    }
+}
+
 impl Post {
     /// Lends a process that is ready to a seat, as the lists have it: what it leaves of the other processes isn't said here.
     fn take_out(&mut self, process: u32, seat: u32) -> Result<Proc, NotReady>
@@ -53,6 +63,7 @@ impl Post {
         ensures none { OnErr result (NoneReady process self.old) }
         ensures same { OnErr result (Same self.old self.new) }
         ensures limits { self.new.limits ≡ self.old.limits }
+        ensures wrong { self.new.wrong ≡ self.old.wrong }
     {
         if !is_ready(self.statuses.get(process)) {
             return Err(NotReady);
@@ -80,6 +91,7 @@ impl Post {
         ensures none { OnErr result (NoneReady process self.old) }
         ensures same { OnErr result (Same self.old self.new) }
         ensures limits { self.new.limits ≡ self.old.limits }
+        ensures wrong { self.new.wrong ≡ self.old.wrong }
     {
         match self.take_out(process, seat) {
             Ok(proc) => Ok(proc),
@@ -91,6 +103,7 @@ impl Post {
     fn stop(&mut self, process: u32, proc: Proc)
         ensures after { (output : List ℕ) → world_of self.new output ≡ back_in process (state_of proc) Stopped (world_of self.old output) }
         ensures limits { self.new.limits ≡ self.old.limits }
+        ensures wrong { self.new.wrong ≡ self.old.wrong }
     {
         self.come_home(process, proc, Status::Stopped);
     }
@@ -107,6 +120,7 @@ impl Post {
         requires brings { (wish : Action Parcel) → told_came came ≡ Some (Wants wish) → BringsApart wish process (state_of proc) self.old }
         ensures checks { ChecksHome code.now process came (state_of proc) self.old self.new result }
         ensures limits { self.new.limits ≡ self.old.limits }
+        ensures wrong { self.new.wrong ≡ self.old.wrong }
     {
         match came {
             Came::Went => {
@@ -125,7 +139,7 @@ impl Post {
                 Ok(Answer::Spent(steps))
             }
             Came::Wrong => {
-                self.lose(process);
+                self.abandon(process);
                 Ok(Answer::Wrong)
             }
         }
@@ -143,9 +157,10 @@ impl Post {
         requires brings { (wish : Action Parcel) → told_came came ≡ Some (Wants wish) → BringsApart wish process (state_of proc) self.old }
         ensures checks { ChecksHome code.now process came (state_of proc) self.old self.new result }
         ensures limits { self.new.limits ≡ self.old.limits }
+        ensures wrong { self.new.wrong ≡ self.old.wrong }
     {
         if let Came::Wrong = came {
-            self.lose(process);
+            self.abandon(process);
             return Ok(Answer::Wrong);
         }
         if self.halt.is_some() {
@@ -173,12 +188,17 @@ impl Post {
         ensures stays { IfOk result (λ answer. StaysAhead code.now self.old self.new answer) }
         ensures stands { IfOk result (λ answer. StandsOn code.now self.new answer) }
         ensures limits { self.new.limits ≡ self.old.limits }
+        ensures wrong { self.new.wrong ≡ wrong_after result process self.old.wrong }
+        ensures tells { IfOk result (λ answer. TellsWrong code.now process self.old answer) }
         ensures again { OnErr result (Stands code.now self.new) }
         ensures others { OthersStay code.now process self.old self.new }
         ensures gives { IfErr result (λ fault. IsComing code.now self.new process seat home.GivesUp (state_of fault.proc)) }
     {
         match self.settle(code, process, proc, came) {
-            Ok(answer) => Ok(answer),
+            Ok(answer) => {
+                self.wrong = wrong_by(&answer, process, self.wrong);
+                Ok(answer)
+            }
             Err(fault) => Err(fault),
         }
     }
@@ -189,6 +209,7 @@ impl Post {
         requires comes { IsComing code.now self.old process process home.GivesUp (state_of proc) }
         ensures rests { Rests code.now self.old self.new }
         ensures limits { self.new.limits ≡ self.old.limits }
+        ensures wrong { self.new.wrong ≡ self.old.wrong }
     {
         match self.check_in(code, process, process, proc, Came::GivesUp) {
             Ok(_) => {}
@@ -202,6 +223,7 @@ impl Post {
         requires comes { IsComing code.now self.old process process home.Went (state_of proc) }
         ensures rests { Rests code.now self.old self.new }
         ensures limits { self.new.limits ≡ self.old.limits }
+        ensures wrong { self.new.wrong ≡ self.old.wrong }
     {
         match self.check_in(code, process, process, proc, Came::Went) {
             Ok(_) => {}
@@ -217,6 +239,8 @@ impl Post {
         ensures fails { OnErr result (Rests code.now self.old self.new) }
         ensures memory { IfErr result (λ why. why ≡ fault.OutOfMemory) }
         ensures limits { self.new.limits ≡ self.old.limits }
+        ensures wrong { self.new.wrong ≡ wrong_after result process self.old.wrong }
+        ensures tells { IfOk result (λ answer. TellsWrong code.now process self.old answer) }
     {
         let stepped = slice(self.alloc, &mut proc, code, &self.limits, ALL);
         let (came, memory) = came_of(stepped);
@@ -245,6 +269,8 @@ impl Post {
         ensures fails { OnErr result (Rests code.now self.old self.new) }
         ensures faults { IfErr result (λ why. FaultsBy process self.old why) }
         ensures limits { self.new.limits ≡ self.old.limits }
+        ensures wrong { self.new.wrong ≡ wrong_after result process self.old.wrong }
+        ensures tells { IfOk result (λ answer. TellsWrong code.now process self.old answer) }
     {
         match self.check_out(process, process) {
             Err(_) => Err(ActFault::NotReady),
@@ -256,6 +282,7 @@ impl Post {
     fn seen(&mut self, process: u32, proc: Proc, came: Came) -> Looked
         ensures sees { (output : List ℕ) → SeesBy process (told_came came) (state_of proc) (world_of self.old output) (world_of self.new output) result }
         ensures limits { self.new.limits ≡ self.old.limits }
+        ensures wrong { self.new.wrong ≡ wrong_seen result process self.old.wrong }
     {
         match came {
             Came::Wants(wish) => {
@@ -276,7 +303,8 @@ impl Post {
                 Looked::Spent(steps)
             }
             Came::Wrong => {
-                self.lose(process);
+                self.abandon(process);
+                self.wrong = Some(process);
                 Looked::Wrong
             }
             Came::Went => {
@@ -301,6 +329,8 @@ impl Post {
         ensures fails { OnErr result (Rests code.now self.old self.new) }
         ensures memory { IfErr result (λ why. why ≡ fault.OutOfMemory) }
         ensures limits { self.new.limits ≡ self.old.limits }
+        ensures wrong { self.new.wrong ≡ wrong_after_look result process self.old.wrong }
+        ensures tells { IfOk result (λ looked. SeesWrong code.now process self.old looked) }
     {
         let stepped = slice(self.alloc, &mut proc, code, &self.limits, ALL);
         let (came, memory) = came_of(stepped);
@@ -325,6 +355,8 @@ impl Post {
         ensures fails { OnErr result (Rests code.now self.old self.new) }
         ensures faults { IfErr result (λ why. FaultsBy process self.old why) }
         ensures limits { self.new.limits ≡ self.old.limits }
+        ensures wrong { self.new.wrong ≡ wrong_after_look result process self.old.wrong }
+        ensures tells { IfOk result (λ looked. SeesWrong code.now process self.old looked) }
     {
         match self.check_out(process, process) {
             Err(_) => Err(ActFault::NotReady),

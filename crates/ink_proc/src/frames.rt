@@ -1,5 +1,5 @@
 //! The frames of a process.
-ghost use Rattle.std.specs.Prelude.{◌≡◌, ◌+◌, ◌∷◌, ◌≤◌, ◌&&◌, [], drop, length, reverse, slice_get, is_some, IfErr, IfOk, List, MatchOption, MatchResult, OnErr, OnOk, Result};
+ghost use Rattle.std.specs.Prelude.{ℕ, ◌≡◌, ◌+◌, ◌∷◌, ◌≤◌, ◌&&◌, [], drop, length, reverse, slice_get, is_some, IfErr, IfOk, List, MatchOption, MatchResult, OnErr, OnOk, Result};
 ghost use Rattle.std.specs.Bool.{MatchBool};
 ghost use Rattle.std.specs.Option.{option_copied};
 ghost use Rattle.std.specs.Vec.{vec_capacity, vec_len};
@@ -7,11 +7,13 @@ ghost use Rattle.ink_base.specs.declared.value.Value.TheVariants.{Empty};
 ghost use Rattle.ink_code.specs.declared.frame.Frame.{Frame as OneFrame};
 ghost use Rattle.ink_code.specs.Process.{at_place, entered, held, put_out, register, taken_out, with_register, with_swapped};
 ghost use Rattle.ink_proc.specs.Answers.{IsEnterAnswer, IsMoved, IsPutAnswer};
+ghost use Rattle.ink_quick.specs.Makes.{Runs};
 
 use crate::fault::EnterFault;
 use crate::moving::{move_back, move_behind, move_in, move_out, pad};
 use ink_base::{Items, Value};
-use ink_code::{Frame, Wrong};
+use ink_code::{Code, Frame, Wrong};
+use ink_quick::run_in_frame;
 use std::alloc::{AllocError, AllocFailed, Global};
 use std::marker::Model;
 
@@ -160,6 +162,19 @@ impl Frames {
             let frame = &mut self.items[count - 1];
             frame.place = place;
         }
+    }
+
+    /// At most so many steps within the innermost frame, up to the first that isn't one: how many were made.
+    pub fn run_top(&mut self, code: &Code, most: u64) -> u64
+        ensures most { result ≤ most }
+        ensures runs { (limits : List ℕ) → Runs code.now limits result self.old self.new }
+    {
+        let count = self.items.len();
+        if count == 0 {
+            return 0;
+        }
+        let frame = &mut self.items[count - 1];
+        run_in_frame(frame, code, most)
     }
 
     /// Moves the values of registers out of the innermost frame, into a vector with room for them.

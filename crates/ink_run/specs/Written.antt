@@ -1,5 +1,5 @@
 -- What went out of a run: the output of its journal.
-use Rattle.std.specs.Prelude.{◌≡◌, ℕ, ◌<◌, Option, None, Some, Ok, List, [], ◌∷◌, ◌++◌, length, take}
+use Rattle.std.specs.Prelude.{◌≡◌, ℕ, ◌<◌, Option, None, Some, Result, Ok, Err, List, [], ◌∷◌, ◌++◌, length, take}
 use Rattle.ink_code.specs.declared.code.Code.{Code}
 use Rattle.ink_code.specs.Process.{Process}
 use Rattle.ink_code.specs.Trees.{Parcel}
@@ -7,10 +7,12 @@ use Rattle.ink_devices.specs.Outside.{CountsFault, appended}
 use Rattle.ink_law_runs.specs.CodeMachine.{code_machine, opening_run}
 use Rattle.ink_law_turns.specs.Turns.{Run, Turns}
 use Rattle.ink_post.specs.Answers.{ActsAs, ChecksHome}
+use Rattle.ink_post.specs.Meaning.{Ends}
 use Rattle.ink_post.specs.Worlds.{Stands, StandsAfter}
 use Rattle.ink_post.specs.declared.answer.Answer.{Answer}
 use Rattle.ink_post.specs.declared.answer.Answer.TheVariants as a
 use Rattle.ink_post.specs.declared.answer.Came.{Came}
+use Rattle.ink_post.specs.declared.answer.End.TheVariants as end
 use Rattle.ink_post.specs.declared.post.Post.{Post}
 use Rattle.ink_run.specs.Sinks.{SinkState, Gets, Cuts}
 use Rattle.ink_run.specs.declared.applied.Applied.{Applied}
@@ -84,6 +86,20 @@ StaysWritten code old new before after got = (first : SinkState) → IsWritten c
 abbrev pub StandsOn : Code → Post → Applied → Type 0
 StandsOn code new applied.Wrong = Unit {0}
 StandsOn code new got = Stands code new
+
+-- the last process whose code was found wrong, after an answer
+abbrev pub wrong_by : Applied → ℕ → Option ℕ → Option ℕ
+wrong_by applied.Wrong process before = Some process
+wrong_by answer process before = before
+
+abbrev pub wrong_after : {F : Type 0} → Result Applied F → ℕ → Option ℕ → Option ℕ
+wrong_after (Ok answer) process before = wrong_by answer process before
+wrong_after (Err fault) process before = before
+
+-- a process whose code is found wrong goes wrong after the journal
+abbrev pub TellsWrong : Code → ℕ → Post → Applied → Type 0
+TellsWrong code process old applied.Wrong = Ends code old.limits old.journal.entries (end.Wrong process)
+TellsWrong code process old answer = Unit {0}
 
 -- a process had a turn, and what it printed went out
 pub record ActsOut (code : Code) (process : ℕ) (old new : Post) (before after : SinkState) (got : Applied) : Type 0 where

@@ -1,5 +1,5 @@
 //! All processes of a run, at home or lent, what they share, and where their prints go.
-ghost use Rattle.std.specs.Prelude.{◌≡◌, ◌+◌, ◌++◌, ◌∷◌, ℕ, List, [], IfErr, IfOk, None, OnErr, Result, length};
+ghost use Rattle.std.specs.Prelude.{◌≡◌, ◌+◌, ◌++◌, ◌∷◌, ℕ, List, [], IfErr, IfOk, IfSome, None, OnErr, Result, length};
 ghost use Rattle.std.specs.List.{list_any, position};
 ghost use Rattle.std.specs.Option.{option_copied, option_map};
 ghost use Rattle.ink_base.specs.Numbered.{numbered};
@@ -8,15 +8,17 @@ ghost use Rattle.ink_code.specs.declared.code.Code.{Code as OneCode};
 ghost use Rattle.ink_post.specs.Answers.{Lends, OthersStay, WantsMemory};
 ghost use Rattle.ink_post.specs.Asks.{IsComing, IsLent, NoneReady, told_came};
 ghost use Rattle.ink_post.specs.Ends.{end_in};
-ghost use Rattle.ink_post.specs.Turning.{FaultsBy, LooksAs};
+ghost use Rattle.ink_post.specs.Meaning.{Ends};
+ghost use Rattle.ink_post.specs.Turning.{FaultsBy, LooksAs, SeesWrong, wrong_after_look};
 ghost use Rattle.ink_post.specs.Worlds.{Same, Stands, proc_at, world_of};
 ghost use Rattle.ink_post.specs.declared.answer.Came.TheVariants as home;
 ghost use Rattle.ink_proc.specs.State.{state_of};
 ghost use Rattle.ink_run.specs.Sinks.{sink_of};
-ghost use Rattle.ink_run.specs.Written.{ActsOut, AddsBy, ChecksOut, IsWritten, KeepsWritten, LooksOn, LooksWritten, StandsOn, StaysWritten, Writes, WritesLine};
+ghost use Rattle.ink_run.specs.Written.{ActsOut, AddsBy, ChecksOut, IsWritten, KeepsWritten, LooksOn, LooksWritten, StandsOn, StaysWritten, TellsWrong, Writes, WritesLine, wrong_after};
 ghost use Rattle.ink_run.specs.declared.applied.BeginFault.TheVariants as begin;
 ghost use Rattle.ink_statuses.specs.Readings.{is_out, is_ready};
-ghost use Rattle.ink_worlds.specs.State.{first_state};
+ghost use Rattle.ink_worlds.specs.State.{first_state, put_in};
+ghost use Rattle.ink_worlds.specs.declared.status.Status.TheVariants.{Stopped};
 
 use crate::applied::{Applied, BeginFault};
 use crate::line::write_line;
@@ -44,6 +46,7 @@ impl<K: Sink + Drop> World<K> {
     ) -> Result<World<K>, BeginFault<K>>
         ensures begins { IfOk result (λ world. world_of world.post [] ≡ first_state (opening_run code.now)) }
         ensures limits { IfOk result (λ world. world.post.limits ≡ limits) }
+        ensures wrong { IfOk result (λ world. world.post.wrong ≡ None) }
         ensures sink { IfOk result (λ world. world.sink ≡ sink) }
         ensures written { IfOk result (λ world. IsWritten code.now world.post (sink_of K.contents K.faults sink) (sink_of K.contents K.faults world.sink)) }
         ensures back { IfErr result (λ fault. fault ≡ begin.OutOfMemory sink) }
@@ -71,6 +74,7 @@ impl<K: Sink + Drop> World<K> {
     /// Makes room for one entry more.
     pub fn reserve(&mut self) -> Result<(), AllocError>
         ensures same { Same self.old.post self.new.post }
+        ensures wrong { self.new.post.wrong ≡ self.old.post.wrong }
         ensures sink { self.new.sink ≡ self.old.sink }
     {
         self.post.reserve()
@@ -115,6 +119,7 @@ impl<K: Sink + Drop> World<K> {
         ensures none { OnErr result (NoneReady process self.old.post) }
         ensures same { OnErr result (Same self.old.post self.new.post) }
         ensures limits { self.new.post.limits ≡ self.old.post.limits }
+        ensures wrong { self.new.post.wrong ≡ self.old.post.wrong }
         ensures sink { self.new.sink ≡ self.old.sink }
     {
         self.post.check_out(process, seat)
@@ -144,11 +149,23 @@ impl<K: Sink + Drop> World<K> {
         ensures others { OthersStay code.now process self.old.post self.new.post }
         ensures sink { OnErr result (self.new.sink ≡ self.old.sink) }
         ensures limits { self.new.post.limits ≡ self.old.post.limits }
+        ensures wrong { self.new.post.wrong ≡ wrong_after result process self.old.post.wrong }
+        ensures tells { IfOk result (λ applied. TellsWrong code.now process self.old.post applied) }
     {
         match self.post.check_in(code, process, seat, proc, came) {
             Err(fault) => Err(fault),
             Ok(answer) => Ok(self.written(answer)),
         }
+    }
+
+    /// A process is gone, lent or not, and makes no further step. Nothing is asked of it, and all else stays.
+    pub fn abandon(&mut self, process: u32)
+        ensures after { (output : List ℕ) → world_of self.new.post output ≡ put_in process None Stopped (world_of self.old.post output) }
+        ensures limits { self.new.post.limits ≡ self.old.post.limits }
+        ensures wrong { self.new.post.wrong ≡ self.old.post.wrong }
+        ensures sink { self.new.sink ≡ self.old.sink }
+    {
+        self.post.abandon(process);
     }
 
     /// Lets a process make its own steps up to its next action, and makes that.
@@ -161,6 +178,8 @@ impl<K: Sink + Drop> World<K> {
         ensures stands { IfOk result (λ applied. StandsOn code.now self.new.post applied) }
         ensures fails { OnErr result (Stands code.now self.new.post) }
         ensures limits { self.new.post.limits ≡ self.old.post.limits }
+        ensures wrong { self.new.post.wrong ≡ wrong_after result process self.old.post.wrong }
+        ensures tells { IfOk result (λ applied. TellsWrong code.now process self.old.post applied) }
         ensures written { IfOk result (λ applied. StaysWritten code.now self.old.post self.new.post (sink_of K.contents K.faults self.old.sink) (sink_of K.contents K.faults self.new.sink) applied) }
         ensures still { OnErr result (KeepsWritten code.now self.old.post self.new.post (sink_of K.contents K.faults self.old.sink) (sink_of K.contents K.faults self.new.sink)) }
         ensures adds { IfOk result (λ applied. AddsBy process applied self.old.post.journal.entries self.new.post.journal.entries) }
@@ -189,6 +208,8 @@ impl<K: Sink + Drop> World<K> {
         ensures journal { self.new.post.journal.entries ≡ self.old.post.journal.entries }
         ensures sink { self.new.sink ≡ self.old.sink }
         ensures limits { self.new.post.limits ≡ self.old.post.limits }
+        ensures wrong { self.new.post.wrong ≡ wrong_after_look result process self.old.post.wrong }
+        ensures tells { IfOk result (λ looked. SeesWrong code.now process self.old.post looked) }
         ensures faults { IfErr result (λ why. FaultsBy process self.old.post why) }
     {
         match self.post.look(code, process) {
@@ -199,7 +220,8 @@ impl<K: Sink + Drop> World<K> {
 
     /// How the run ended. `None` where it goes on: a process is ready or lent, or stopped without an end.
     pub fn end(&self) -> Option<End>
-        ensures { result ≡ end_in self.now.post.halt self.now.post.wrong self.now.post.statuses.items }
+        ensures is { result ≡ end_in self.now.post.halt self.now.post.wrong self.now.post.statuses.items }
+        ensures means { (code : OneCode) → Stands code self.now.post → self.now.post.wrong ≡ None → IfSome result (λ end. Ends code self.now.post.limits self.now.post.journal.entries end) }
     {
         self.post.end()
     }

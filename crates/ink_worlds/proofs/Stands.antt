@@ -1,5 +1,5 @@
 -- Each call of a world keeps what the world claims.
-use Rattle.std.proofs.Common.{◌≡◌, ◌≢◌, ℕ, ◌+◌, Bool, true, false, eqb, cond, Option, None, Some, List, [], ◌∷◌, ◌++◌, length, map, refl, ap, sym, ◌∙◌, subst, inl, inr, length-append}
+use Rattle.std.proofs.Common.{◌≡◌, ◌≢◌, ◌≤◌, ℕ, ◌+◌, Bool, true, false, eqb, cond, Option, None, Some, List, [], ◌∷◌, ◌++◌, length, map, refl, ap, sym, ◌∙◌, subst, inl, inr, length-append, arith, leb-true}
 use Rattle.std.specs.Option.{option_map}
 use Rattle.std.specs.Prelude.{nat_le, IfSome}
 use Rattle.std.proofs.lemmas.List.{length-map}
@@ -15,13 +15,20 @@ use Rattle.ink_law_turns.proofs.Commuting.{ahead_put, ahead_acts}
 use Rattle.ink_law_turns.proofs.Determined.{stands_once}
 use Rattle.ink_law_turns.proofs.Numbering.{numbered-set_same, numbered-set_other, numbered-append, numbered-append_last, none_some, some_is, length-set_numbered, numbered-set_found, numbered-append_cases, numbered-map, numbered_level}
 use Rattle.ink_law_turns.proofs.Sharing.{unread_kept, future_kept}
-use Rattle.ink_worlds.specs.Standing.{AtHome, StandsFor, ComesFrom, panic_in, text_in}
+use Rattle.ink_worlds.specs.Standing.{AtHome, CanAct, EndedBy, HasMade, StandsFor, ComesFrom, panic_in, text_in}
 use Rattle.ink_worlds.specs.State.{State, Came, Went, GivesUp, Wants, Spent, Answer, ChecksInBy, ChecksIn, ComesBack, ActsBy, Makes, first_state, put_in, back_in, halted, checked_out, acted, woken, woken_at, woken_from_take, woken_from_get, home_started, halt_by, text_by, status_after, waits_at}
 use Rattle.ink_worlds.specs.declared.halt.Halt.{Halt}
 use Rattle.ink_worlds.specs.declared.halt.Halt.TheVariants.{Panicked, SinkFailed, Events, Local}
 use Rattle.ink_worlds.specs.declared.status.Status.{Status}
 use Rattle.ink_worlds.specs.declared.status.Status.TheVariants.{Ready, Out, Idle, Held, Stopped}
 use Rattle.ink_worlds.proofs.Waking.{woken_one, woken_each}
+
+-- a test that succeeds
+le_of : {a b : ℕ} → nat_le a b ≡ true → a ≤ b
+le_of {a} {b} e = leb-true a b e
+
+none_le : {a b : ℕ} → a ≡ 0 → a ≤ b
+none_le e = omega (arith, e)
 
 same_either : {X : Type 0} (b : Bool) (x y : X) → x ≡ y → cond b x y ≡ y
 same_either true x y e = e
@@ -253,6 +260,20 @@ module _ {P V : Type 0} (m : Machine P V) where
   rests_by (BreakFuture f) process other ss s at e = absurd (cc)
   rests_by (GetFuture f) process other ss s at e = absurd (cc)
 
+  kept_by : (made : Action V) (process other : ℕ) (hs : List (Option P)) (ps : List P) (left x : P) (h : Option P) → numbered hs process ≡ Some h → halt_by made process ≡ Some (Panicked other) → numbered (with_started m made (set_numbered ps process left)) other ≡ Some x → numbered (home_started m made (set_numbered hs process (Some left))) other ≡ Some (Some x)
+  kept_by (Panic text) process other hs ps left x h at e found =
+      let is : process ≡ other = cc in
+      let same : x ≡ left = numbered-set_found ps process left x (subst (λ (i : ℕ). numbered (set_numbered ps process left) i ≡ Some x) (sym is) found) in
+      ap (λ (i : ℕ). numbered (set_numbered hs process (Some left)) i) (sym is) ∙ (numbered-set_same hs process (Some left) h at ∙ ap (λ (y : P). Some (Some y)) (sym same))
+  kept_by Take process other hs ps left x h at e found = absurd (cc)
+  kept_by (Print text) process other hs ps left x h at e found = absurd (cc)
+  kept_by (Spawn kind fields) process other hs ps left x h at e found = absurd (cc)
+  kept_by (Send to method values) process other hs ps left x h at e found = absurd (cc)
+  kept_by NewFuture process other hs ps left x h at e found = absurd (cc)
+  kept_by (SetFuture f value) process other hs ps left x h at e found = absurd (cc)
+  kept_by (BreakFuture f) process other hs ps left x h at e found = absurd (cc)
+  kept_by (GetFuture f) process other hs ps left x h at e found = absurd (cc)
+
   level_homes : (made : Action V) (hs : List (Option P)) (ps : List P) → length hs ≡ length ps → length (home_started m made hs) ≡ length (with_started m made ps)
   level_homes (Spawn kind fields) hs ps e = length-append hs (Some (m.begun (length hs + 1) kind fields) ∷ []) ∙ (ap (λ (n : ℕ). n + 1) e ∙ sym (length-append ps (m.begun (length ps + 1) kind fields ∷ [])))
   level_homes Take hs ps e = e
@@ -316,6 +337,49 @@ module _ {P V : Type 0} (m : Machine P V) where
   none_panicked None e = refl
   none_panicked (Some panic) e = absurd (cc)
 
+  -- an action ends a run by a panic alone
+  ended_made : (limits : List ℕ) (first : Run P V) (journal : List ℕ) (shared : SharedState V) (made : Action V) (process : ℕ) → EndedBy m limits first journal shared (halt_by made process)
+  ended_made limits first journal shared (Panic text) process = tt
+  ended_made limits first journal shared Take process = tt
+  ended_made limits first journal shared (Print text) process = tt
+  ended_made limits first journal shared (Spawn kind fields) process = tt
+  ended_made limits first journal shared (Send to method values) process = tt
+  ended_made limits first journal shared NewFuture process = tt
+  ended_made limits first journal shared (SetFuture f value) process = tt
+  ended_made limits first journal shared (BreakFuture f) process = tt
+  ended_made limits first journal shared (GetFuture f) process = tt
+
+  -- no process made more steps than so many
+  abbrev Counts : ℕ → List P → Type 0
+  Counts most ps = (process : ℕ) (q : P) → numbered ps process ≡ Some q → m.ran q ≤ most
+
+  counts_set : (most : ℕ) (ps : List P) (process : ℕ) (q : P) → m.ran q ≤ most → Counts most ps → Counts most (set_numbered ps process q)
+  counts_set most ps process q low counts other x e =
+      elim (cases_eq other process) [
+        | inl same ↦ (
+            let is : x ≡ q = numbered-set_found ps process q x (subst (λ (i : ℕ). numbered (set_numbered ps process q) i ≡ Some x) same e) in
+            subst (λ (y : P). m.ran y ≤ most) (sym is) low)
+        | inr differ ↦ counts other x (sym (numbered-set_other ps process other q differ) ∙ e)
+      ]
+
+  counts_started : IsCounted m → (most : ℕ) (made : Action V) (ps : List P) → Counts most ps → Counts most (with_started m made ps)
+  counts_started counted most (Spawn kind fields) ps counts other x e =
+      elim (numbered-append_cases ps (m.begun (length ps + 1) kind fields) x other e) [
+        | inl old ↦ counts other x old
+        | inr new ↦ (
+            let none : m.ran (m.begun (length ps + 1) kind fields) ≡ 0 = counted.begins (length ps + 1) kind fields in
+            let low : m.ran (m.begun (length ps + 1) kind fields) ≤ most = omega (arith, none) in
+            subst (λ (y : P). m.ran y ≤ most) new.1 low)
+      ]
+  counts_started counted most Take ps counts other x e = counts other x e
+  counts_started counted most (Print text) ps counts other x e = counts other x e
+  counts_started counted most (Send to method values) ps counts other x e = counts other x e
+  counts_started counted most NewFuture ps counts other x e = counts other x e
+  counts_started counted most (SetFuture f value) ps counts other x e = counts other x e
+  counts_started counted most (BreakFuture f) ps counts other x e = counts other x e
+  counts_started counted most (GetFuture f) ps counts other x e = counts other x e
+  counts_started counted most (Panic text) ps counts other x e = counts other x e
+
   -- a world with something else at a number, and another end
   abbrev pub put_as : ℕ → Option P → Status → Option Halt → State P V → State P V
   put_as process home status halt state =
@@ -343,8 +407,8 @@ module _ {P V : Type 0} (m : Machine P V) where
         ahead_put m limits first state.journal s.run process q s.ahead (calm state s process (Out seat ran) at (λ e. cc)) (stands_once m limits first state.journal process q s.ahead.turned stood s.ahead.turns)
 
     -- one process is put back, with its status
-    stands_put : (state : State P V) (s : Stands state) (process : ℕ) (status s' : Status) (q : P) (h' : Option P) (halt : Option Halt) → numbered state.statuses process ≡ Some status → status ≢ Stopped → Led m s.ahead.turned.processes process q → AtHome m state.shared process (Some s') (Some h') q → panic_in halt ≡ panic_in state.halt → ((i : ℕ) → halt ≡ Some (Panicked i) → state.halt ≡ Some (Panicked i)) → Stands (put_as process h' s' halt state)
-    stands_put state s process status s' q h' halt at moves led home panic same =
+    stands_put : (state : State P V) (s : Stands state) (process : ℕ) (status s' : Status) (q : P) (h' : Option P) (halt : Option Halt) → numbered state.statuses process ≡ Some status → status ≢ Stopped → Led m s.ahead.turned.processes process q → AtHome m state.shared process (Some s') (Some h') q → panic_in halt ≡ panic_in state.halt → ((i : ℕ) → halt ≡ Some (Panicked i) → state.halt ≡ Some (Panicked i)) → m.ran q ≤ limit_of limit.Local limits → EndedBy m limits first state.journal state.shared halt → Stands (put_as process h' s' halt state)
+    stands_put state s process status s' q h' halt at moves led home panic same low ended =
         let p = at_run state s process status at in
         let stood : AtHome m state.shared process (Some status) (numbered state.homes process) p.0 = subst (λ (o : Option Status). AtHome m state.shared process o (numbered state.homes process) p.0) at (s.each process p.0 p.1) in
         let h = found_home state.shared process status (numbered state.homes process) p.0 stood in
@@ -356,33 +420,39 @@ module _ {P V : Type 0} (m : Machine P V) where
           text = s.text;
           homes = length-set_numbered state.homes process h' ∙ (s.homes ∙ sym (length-set_numbered s.run.processes process q));
           statuses = length-set_numbered state.statuses process s' ∙ (s.statuses ∙ sym (length-set_numbered s.run.processes process q));
+          counts = counts_set (limit_of limit.Local limits) s.run.processes process q low s.counts;
+          ended = ended;
           rests = λ i e. numbered-set_other state.statuses process i s' (λ is. moves (some_is status Stopped (sym at ∙ (ap (λ (k : ℕ). numbered state.statuses k) (sym is) ∙ s.rests i (same i e))))) ∙ s.rests i (same i e);
+          kept = λ i x e found.
+              let differ : i ≢ process = λ is. moves (some_is status Stopped (sym at ∙ (ap (λ (k : ℕ). numbered state.statuses k) (sym is) ∙ s.rests i (same i e)))) in
+              numbered-set_other state.homes process i h' differ ∙ s.kept i x (same i e) (sym (numbered-set_other s.run.processes process i q differ) ∙ found);
           each = each_set state.shared s.run.processes state.statuses state.homes process p.0 q status s' h.0 h' s.each p.1 at h.1 home;
         }
 
     -- a ready process is lent, and stands as the journal leaves it and its steps
-    pub checks_out : (state : State P V) (process seat : ℕ) (p : P) → Stands state → numbered state.statuses process ≡ Some Ready → numbered state.homes process ≡ Some (Some p) → Stands (checked_out process seat (m.ran p) state) × StandsAt m limits first state.journal process p
+    pub checks_out : (state : State P V) (process seat : ℕ) (p : P) → Stands state → numbered state.statuses process ≡ Some Ready → numbered state.homes process ≡ Some (Some p) → Stands (checked_out process seat (m.ran p) state) × StandsAt m limits first state.journal process p × (m.ran p ≤ limit_of limit.Local limits)
     checks_out state process seat p s at home =
         let q = at_run state s process Ready at in
         let stood : AtHome m state.shared process (Some Ready) (numbered state.homes process) q.0 = subst (λ (o : Option Status). AtHome m state.shared process o (numbered state.homes process) q.0) at (s.each process q.0 q.1) in
         let is : q.0 ≡ p = some_is q.0 p (some_is (Some q.0) (Some p) (sym stood ∙ home)) in
         let led = subst (λ (x : P). Led m s.ahead.turned.processes process x) is (s.ahead.each process q.0 q.1) in
-        (stands_put state s process Ready (Out seat (m.ran p)) p None state.halt at (λ e. cc) led (refl, refl) refl (λ i e. e), record { turned = s.ahead.turned; turns = s.ahead.turns; led = led })
+        let low : m.ran p ≤ limit_of limit.Local limits = subst (λ (x : P). m.ran x ≤ limit_of limit.Local limits) is (s.counts process q.0 q.1) in
+        (stands_put state s process Ready (Out seat (m.ran p)) p None state.halt at (λ e. cc) led (refl, refl) refl (λ i e. e) low s.ended, record { turned = s.ahead.turned; turns = s.ahead.turns; led = led }, low)
 
     module _ (counted : IsCounted m) where
       -- what came back is like what stood there
-      like_before : (before p : P) (came : Came V) → ComesFrom m before came p → IsLike m p before
+      like_before : (before p : P) (came : Came V) → ComesFrom m limits before came p → IsLike m p before
       like_before before p Went from = subst (λ (x : P). IsLike m x before) (sym from) (like_refl before)
       like_before before p GivesUp from = from
       like_before before p (Wants wish) from = counted.waits before p wish from
-      like_before before p (Spent steps) from = subst (λ (x : P). IsLike m x before) (sym from) (like_refl before)
+      like_before before p (Spent steps) from = subst (λ (x : P). IsLike m x before) (sym from.0) (like_refl before)
 
-      module _ (state : State P V) (s : Stands state) (process seat ran : ℕ) (at : numbered state.statuses process ≡ Some (Out seat ran)) (before p : P) (stood : StandsAt m limits first state.journal process before) where
+      module _ (state : State P V) (s : Stands state) (process seat ran : ℕ) (at : numbered state.statuses process ≡ Some (Out seat ran)) (before p : P) (stood : StandsAt m limits first state.journal process before) (low : m.ran before ≤ limit_of limit.Local limits) where
         led_back : Led m s.ahead.turned.processes process before
         led_back = stands_once m limits first state.journal process before s.ahead.turned stood s.ahead.turns
 
-        stopped_as : (kept : Option P) (halt : Option Halt) → IfSome kept (λ x. IsLike m x before) → panic_in halt ≡ panic_in state.halt → ((i : ℕ) → halt ≡ Some (Panicked i) → state.halt ≡ Some (Panicked i)) → Stands (put_as process kept Stopped halt state)
-        stopped_as kept halt like panic same = stands_put state s process (Out seat ran) Stopped before kept halt at (λ e. cc) led_back (kept, refl, like) panic same
+        stopped_as : (kept : Option P) (halt : Option Halt) → IfSome kept (λ x. IsLike m x before) → panic_in halt ≡ panic_in state.halt → ((i : ℕ) → halt ≡ Some (Panicked i) → state.halt ≡ Some (Panicked i)) → EndedBy m limits first state.journal state.shared halt → Stands (put_as process kept Stopped halt state)
+        stopped_as kept halt like panic same ended = stands_put state s process (Out seat ran) Stopped before kept halt at (λ e. cc) led_back (kept, refl, like) panic same low ended
 
         acts_made : (wish : Action V) (left : P) (new : State P V) → state.halt ≡ None → m.step before ≡ Comes wish p → is_enabled wish process state.shared ≡ true → m.left (as_made wish state.shared limits) process state.shared p ≡ Some left → new ≡ acted m (as_made wish state.shared limits) process left state → Stands new
         acts_made wish left new halt comes enabled replied result =
@@ -392,6 +462,8 @@ module _ {P V : Type 0} (m : Machine P V) where
             let stood_home : AtHome m state.shared process (Some (Out seat ran)) (numbered state.homes process) q.0 = subst (λ (o : Option Status). AtHome m state.shared process o (numbered state.homes process) q.0) at (s.each process q.0 q.1) in
             let quiet : run.panic ≡ None = none_panicked run.panic (sym s.panic ∙ ap panic_in halt) in
             let ahead = ahead_acts m limits first counted state.journal run process before p left wish q.0 s.ahead quiet q.1 led_back comes (sym (ap (λ (x : SharedState V). is_enabled wish process x) s.shared) ∙ enabled) (sym (ap (λ (x : SharedState V). m.left (as_made wish x limits) process x p) s.shared) ∙ replied) in
+            let none : m.ran left ≡ 0 = counted.leaves made process state.shared p left replied in
+            let kept : m.ran left ≤ limit_of limit.Local limits = omega (arith, none) in
             subst Stands (sym result) (record {
               run = after_made m made process left run;
               ahead = subst (λ (x : SharedState V). Ahead m limits first (state.journal ++ process ∷ []) (after_made m (as_made wish x limits) process left run)) (sym s.shared) ahead;
@@ -400,35 +472,42 @@ module _ {P V : Type 0} (m : Machine P V) where
               text = text_of_made made process;
               homes = level_homes made (set_numbered state.homes process (Some left)) (set_numbered run.processes process left) (length-set_numbered state.homes process (Some left) ∙ (s.homes ∙ sym (length-set_numbered run.processes process left)));
               statuses = level_statuses made (set_numbered state.statuses process (status_after made)) (set_numbered run.processes process left) (length-set_numbered state.statuses process (status_after made) ∙ (s.statuses ∙ sym (length-set_numbered run.processes process left)));
+              counts = counts_started counted (limit_of limit.Local limits) made (set_numbered run.processes process left) (counts_set (limit_of limit.Local limits) run.processes process left kept s.counts);
+              ended = ended_made limits first (state.journal ++ process ∷ []) (after_action made process state.shared) made process;
               rests = λ i e. rests_by made process i state.statuses (Out seat ran) at e;
+              kept = λ i x e found. kept_by made process i state.homes run.processes left x None stood_home.0 e found;
               each = at_acted made process state.shared run.processes state.statuses state.homes q.0 left (Out seat ran) None s.each q.1 at stood_home.0 s.homes s.statuses;
             })
 
         makes_by : (wish : Action V) (o : Option P) (answer : Answer) (new : State P V) → m.left (as_made wish state.shared limits) process state.shared p ≡ o → state.halt ≡ None → m.step before ≡ Comes wish p → is_enabled wish process state.shared ≡ true → Makes m (as_made wish state.shared limits) process o state answer new → Stands new
-        makes_by wish None answer new replied halt comes enabled makes = subst Stands (sym makes.1) (stopped_as None state.halt tt refl (λ i e. e))
+        makes_by wish None answer new replied halt comes enabled makes = subst Stands (sym makes.1) (stopped_as None state.halt tt refl (λ i e. e) s.ended)
         makes_by wish (Some left) answer new replied halt comes enabled makes = acts_made wish left new halt comes enabled replied makes.1
 
-        acts_by : (wish : Action V) (enabled full : Bool) (answer : Answer) (new : State P V) → state.halt ≡ None → m.step before ≡ Comes wish p → is_enabled wish process state.shared ≡ enabled → ActsBy m limits process wish p state enabled full answer new → Stands new
-        acts_by wish false full answer new halt comes enabled acts =
+        acts_by : (wish : Action V) (enabled full : Bool) (answer : Answer) (new : State P V) → state.halt ≡ None → m.step before ≡ Comes wish p → is_enabled wish process state.shared ≡ enabled → nat_le (limit_of limit.Events limits) (length state.journal) ≡ full → ActsBy m limits process wish p state enabled full answer new → Stands new
+        acts_by wish false full answer new halt comes enabled room acts =
             let same : p ≡ before = counted.stays before p wish comes (not_binding wish process state.shared enabled) in
             let there : m.step p ≡ Comes wish p = subst (λ (x : P). m.step x ≡ Comes wish p) (sym same) comes in
             let led : Led m s.ahead.turned.processes process p = subst (λ (x : P). Led m s.ahead.turned.processes process x) (sym same) led_back in
-            subst Stands (sym acts.1) (stands_put state s process (Out seat ran) (waits_at wish) p (Some p) state.halt at (λ e. cc) led (waits_home wish process state.shared p enabled there) refl (λ i e. e))
-        acts_by wish true true answer new halt comes enabled acts = subst Stands (sym acts.1) (stopped_as (Some p) (Some (Events process)) (counted.waits before p wish comes) (sym (ap panic_in halt)) (λ i e. cc))
-        acts_by wish true false answer new halt comes enabled acts = makes_by wish (m.left (as_made wish state.shared limits) process state.shared p) answer new refl halt comes enabled acts
+            subst Stands (sym acts.1) (stands_put state s process (Out seat ran) (waits_at wish) p (Some p) state.halt at (λ e. cc) led (waits_home wish process state.shared p enabled there) refl (λ i e. e) (subst (λ (x : P). m.ran x ≤ limit_of limit.Local limits) (sym same) low) s.ended)
+        acts_by wish true true answer new halt comes enabled room acts =
+            let can : CanAct m limits first state.journal state.shared process = record { before = before; stood = stood; wish = wish; waiting = p; comes = comes; enabled = enabled } in
+            subst Stands (sym acts.1) (stopped_as (Some p) (Some (Events process)) (counted.waits before p wish comes) (sym (ap panic_in halt)) (λ i e. cc) (le_of room, can))
+        acts_by wish true false answer new halt comes enabled room acts = makes_by wish (m.left (as_made wish state.shared limits) process state.shared p) answer new refl halt comes enabled acts
 
-        back_by : (came : Came V) (answer : Answer) (new : State P V) → state.halt ≡ None → ComesFrom m before came p → ComesBack m limits process came p state answer new → Stands new
-        back_by Went answer new halt from back = subst Stands (sym back.1) (stands_put state s process (Out seat ran) Ready p (Some p) state.halt at (λ e. cc) (subst (λ (x : P). Led m s.ahead.turned.processes process x) (sym from) led_back) refl refl (λ i e. e))
-        back_by GivesUp answer new halt from back = subst Stands (sym back.1) (stopped_as (Some p) state.halt from refl (λ i e. e))
-        back_by (Wants wish) answer new halt from back = acts_by wish (is_enabled wish process state.shared) (nat_le (limit_of limit.Events limits) (length state.journal)) answer new halt from refl back
-        back_by (Spent steps) answer new halt from back = subst Stands (sym back.1) (stopped_as (Some p) (Some (Local process steps)) (subst (λ (x : P). IsLike m x before) (sym from) (like_refl before)) (sym (ap panic_in halt)) (λ i e. cc))
+        back_by : (came : Came V) (answer : Answer) (new : State P V) → state.halt ≡ None → ComesFrom m limits before came p → ComesBack m limits process came p state answer new → Stands new
+        back_by Went answer new halt from back = subst Stands (sym back.1) (stands_put state s process (Out seat ran) Ready p (Some p) state.halt at (λ e. cc) (subst (λ (x : P). Led m s.ahead.turned.processes process x) (sym from) led_back) refl refl (λ i e. e) (subst (λ (x : P). m.ran x ≤ limit_of limit.Local limits) (sym from) low) s.ended)
+        back_by GivesUp answer new halt from back = subst Stands (sym back.1) (stopped_as (Some p) state.halt from refl (λ i e. e) s.ended)
+        back_by (Wants wish) answer new halt from back = acts_by wish (is_enabled wish process state.shared) (nat_le (limit_of limit.Events limits) (length state.journal)) answer new halt from refl refl back
+        back_by (Spent steps) answer new halt from back =
+            let made : HasMade m limits first state.journal process steps = record { q = before; stood = stood; made = ap m.ran (sym from.0) ∙ from.1 } in
+            subst Stands (sym back.1) (stopped_as (Some p) (Some (Local process steps)) (subst (λ (x : P). IsLike m x before) (sym from.0) (like_refl before)) (sym (ap panic_in halt)) (λ i e. cc) (from.2, made))
 
-        in_by : (came : Came V) (halt : Option Halt) (answer : Answer) (new : State P V) → state.halt ≡ halt → ComesFrom m before came p → ChecksInBy m limits process came p state halt answer new → Stands new
+        in_by : (came : Came V) (halt : Option Halt) (answer : Answer) (new : State P V) → state.halt ≡ halt → ComesFrom m limits before came p → ChecksInBy m limits process came p state halt answer new → Stands new
         in_by came None answer new halt from checks = back_by came answer new halt from checks
-        in_by came (Some end) answer new halt from checks = subst Stands (sym checks.1) (stopped_as (Some p) state.halt (like_before before p came from) refl (λ i e. e))
+        in_by came (Some end) answer new halt from checks = subst Stands (sym checks.1) (stopped_as (Some p) state.halt (like_before before p came from) refl (λ i e. e) s.ended)
 
         -- a check-in, whatever it comes to
-        pub checks_in : (came : Came V) (answer : Answer) (new : State P V) → ComesFrom m before came p → ChecksIn m limits process came p state answer new → Stands new
+        pub checks_in : (came : Came V) (answer : Answer) (new : State P V) → ComesFrom m limits before came p → ChecksIn m limits process came p state answer new → Stands new
         checks_in came answer new from checks = in_by came state.halt answer new refl from checks
 
     -- a sink that fails takes the output only in part, and the run is as after the print
@@ -441,7 +520,10 @@ module _ {P V : Type 0} (m : Machine P V) where
       text = s.text;
       homes = s.homes;
       statuses = s.statuses;
+      counts = s.counts;
+      ended = tt;
       rests = λ i e. absurd (cc);
+      kept = λ i x e found. absurd (cc);
       each = s.each;
     }
 
@@ -463,7 +545,10 @@ module _ {P V : Type 0} (m : Machine P V) where
       text = sym (ap text_in quiet);
       homes = length-map first.processes (λ (p : P). Some p);
       statuses = length-map first.processes (λ (p : P). Ready);
+      counts = λ process q e. none_le (none process q e);
+      ended = tt;
       rests = λ process e. absurd (cc);
+      kept = λ process q e found. absurd (cc);
       each = λ process q e.
           subst (λ (o : Option Status). AtHome m first.shared process o (numbered (map (λ (p : P). Some p) first.processes) process) q) (sym (numbered-map (λ (p : P). Ready) first.processes process ∙ ap (option_map (λ (p : P). Ready)) e))
           (numbered-map (λ (p : P). Some p) first.processes process ∙ ap (option_map (λ (p : P). Some p)) e);

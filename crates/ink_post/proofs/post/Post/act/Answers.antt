@@ -1,4 +1,4 @@
-use Rattle.ink_post.proofs.TurningLemmas.{acts_adds, acts_as, acts_fails, acts_stays, memory_faults, same_rests}
+use Rattle.ink_post.proofs.TurningLemmas.{acts_adds, acts_as, acts_fails, acts_stays, acts_tells, memory_faults, same_rests}
 use Rattle.ink_post.proofs.post.Post.act.Goals as goal
 use Rattle.ink_proc.specs.State.{state_of}
 
@@ -19,3 +19,6 @@ returns-in-Ok-clause-fails c = acts_fails c.args.code.now c.args.process (state_
 
 pub returns-in-Ok-clause-faults : goal.returns-in-Ok-clause-faults
 returns-in-Ok-clause-faults c = memory_faults c.args.process c.args.process (state_of c.in-Ok.proc) c.args.self.now c.check_out.new.self c.go_on.result c.in-Ok.ensures.lends c.go_on.ensures.memory
+
+pub returns-in-Ok-clause-tells : goal.returns-in-Ok-clause-tells
+returns-in-Ok-clause-tells c = acts_tells c.args.code.now c.args.process (state_of c.in-Ok.proc) c.args.self.now c.check_out.new.self c.go_on.new.self c.check_out.ensures.limits c.in-Ok.ensures.lends c.go_on.result c.go_on.ensures.tells

@@ -34,7 +34,7 @@ returns-in-Spent-clause-checks c output =
 
 pub returns-in-Wrong-clause-checks : goal.returns-in-Wrong-clause-checks
 returns-in-Wrong-clause-checks c =
-    home_by c.args.code.now c.args.process (state_of c.args.proc) c.args.came None c.args.self.now c.lose.new.self a.Wrong (ap told_came c.in-Wrong.is) (λ output. (refl, c.lose.ensures.after output))
+    home_by c.args.code.now c.args.process (state_of c.args.proc) c.args.came None c.args.self.now c.abandon.new.self a.Wrong (ap told_came c.in-Wrong.is) (λ output. (refl, c.abandon.ensures.after output))
 
 pub returns-in-Wants-clause-checks : goal.returns-in-Wants-clause-checks
 returns-in-Wants-clause-checks c =

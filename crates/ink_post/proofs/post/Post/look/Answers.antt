@@ -1,5 +1,5 @@
 use Rattle.std.proofs.Common.{◌∙◌}
-use Rattle.ink_post.proofs.TurningLemmas.{lends_rests, looks_as, looks_fails, looks_on, memory_faults, same_rests}
+use Rattle.ink_post.proofs.TurningLemmas.{lends_rests, looks_as, looks_fails, looks_on, looks_tells, memory_faults, same_rests}
 use Rattle.ink_post.proofs.post.Post.look.Goals as goal
 use Rattle.ink_proc.specs.State.{state_of}
 
@@ -26,3 +26,6 @@ returns-in-Ok-clause-fails c = looks_fails c.args.code.now c.args.process (state
 
 pub returns-in-Ok-clause-faults : goal.returns-in-Ok-clause-faults
 returns-in-Ok-clause-faults c = memory_faults c.args.process c.args.process (state_of c.in-Ok.proc) c.args.self.now c.check_out.new.self c.look_on.result c.in-Ok.ensures.lends c.look_on.ensures.memory
+
+pub returns-in-Ok-clause-tells : goal.returns-in-Ok-clause-tells
+returns-in-Ok-clause-tells c = looks_tells c.args.code.now c.args.process (state_of c.in-Ok.proc) c.args.self.now c.check_out.new.self c.look_on.new.self c.check_out.ensures.limits c.in-Ok.ensures.lends c.look_on.result c.look_on.ensures.tells

@@ -42,7 +42,7 @@ returns-in-Err-OutOfMemory-Got-clause-makes c =
 
 pub returns-in-Err-Wrong-clause-makes : goal.returns-in-Err-Wrong-clause-makes
 returns-in-Err-Wrong-clause-makes c output =
-    got_wrong c.args.code.now c.args.self.now.limits c.args.process (state_of c.args.proc) output c.args.self.now c.take_value-value.new.self (world_of c.lose.new.self output)
-    c.take_value-value.ensures.rest (c.lose.ensures.after output)
+    got_wrong c.args.code.now c.args.self.now.limits c.args.process (state_of c.args.proc) output c.args.self.now c.take_value-value.new.self (world_of c.abandon.new.self output)
+    c.take_value-value.ensures.rest (c.abandon.ensures.after output)
     c.args.future c.take_value-value.result c.take_value-value.ensures.value
     (left_none (answered c.args.code.now (machine.Got c.take_value-value.result) (state_of c.args.proc)) c.answer.result (reply.Got c.take_value-value.result) (state_of c.args.proc) (state_of c.answer.new.proc) c.answer.ensures c.in-Err-Wrong.field-0-0 (cc (c.in-Err-Wrong.is, c.in-Err-Wrong.field-0-is)))

@@ -38,8 +38,8 @@ returns-in-Err-OutOfMemory-Message-clause-makes c =
 
 pub returns-in-Err-Wrong-clause-makes : goal.returns-in-Err-Wrong-clause-makes
 returns-in-Err-Wrong-clause-makes c output =
-    took_wrong c.args.code.now c.args.self.now.limits c.args.process (state_of c.args.proc) output c.args.self.now c.take_message-message.new.self (world_of c.lose.new.self output)
-    c.take_message-message.ensures.rest (c.lose.ensures.after output)
+    took_wrong c.args.code.now c.args.self.now.limits c.args.process (state_of c.args.proc) output c.args.self.now c.take_message-message.new.self (world_of c.abandon.new.self output)
+    c.take_message-message.ensures.rest (c.abandon.ensures.after output)
     c.take_message-message.result c.take_message-message.ensures.message
     (taken_of c.args.code.now (state_of c.args.proc) c.take_message-message.result c.into_parts-number.result.2 c.into_parts-number.result.3 where_right None c.into_parts-number.ensures.method c.into_parts-number.ensures.values
     (left_none (answered c.args.code.now (machine.Taken c.into_parts-number.result.2 c.into_parts-number.result.3) (state_of c.args.proc)) c.answer.result (reply.Message c.into_parts-number.result.2 c.into_parts-number.result.3) (state_of c.args.proc) (state_of c.answer.new.proc) c.answer.ensures c.in-Err-Wrong.field-0-0 (cc (c.in-Err-Wrong.is, c.in-Err-Wrong.field-0-is))))

@@ -26,7 +26,7 @@ returns-in-Spent-clause-sees c output =
 
 pub returns-in-Wrong-clause-sees : goal.returns-in-Wrong-clause-sees
 returns-in-Wrong-clause-sees c output =
-    sees_as c.args.process c.args.came home.Wrong (state_of c.args.proc) (world_of c.args.self.now output) (world_of c.lose.new.self output) looked.Wrong c.in-Wrong.is (refl, c.lose.ensures.after output)
+    sees_as c.args.process c.args.came home.Wrong (state_of c.args.proc) (world_of c.args.self.now output) (world_of c.abandon.new.self output) looked.Wrong c.in-Wrong.is (refl, c.abandon.ensures.after output)
 
 pub returns-in-Went-clause-sees : goal.returns-in-Went-clause-sees
 returns-in-Went-clause-sees c output =

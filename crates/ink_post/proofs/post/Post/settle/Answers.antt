@@ -7,10 +7,11 @@ use Rattle.ink_proc.specs.State.{state_of}
 
 pub returns-in-Wrong-clause-checks : goal.returns-in-Wrong-clause-checks
 returns-in-Wrong-clause-checks c =
-    home_by c.args.code.now c.args.process (state_of c.args.proc) c.args.came None c.args.self.now c.lose.new.self a.Wrong (ap told_came c.in-Wrong.is) (λ output. (refl, c.lose.ensures.after output))
+    home_by c.args.code.now c.args.process (state_of c.args.proc) c.args.came None c.args.self.now c.abandon.new.self a.Wrong (ap told_came c.in-Wrong.is) (λ output. (refl, c.abandon.ensures.after output))
 
 pub returns-then-is_some : goal.returns-then-is_some
 returns-then-is_some c = record {
   checks = over_home c.args.code.now c.args.process (state_of c.args.proc) c.args.came c.args.self.now c.stop.new.self c.in_default.not-Wrong (sym c.is_some.ensures ∙ c.if-is_some.true) c.stop.ensures.after;
   limits = c.stop.ensures.limits;
+  wrong = c.stop.ensures.wrong;
 }

@@ -1,5 +1,6 @@
 use Rattle.std.proofs.Common.{refl}
 use Rattle.ink_run.proofs.ActsLemmas.{acts_stand, acts_written, rests_stands, rests_written, writes_add}
+use Rattle.ink_run.proofs.WrongLemmas.{writes_tell, writes_wrong}
 use Rattle.ink_run.proofs.world.World.act.Goals as goal
 
 pub returns-in-Err-clause-fails : goal.returns-in-Err-clause-fails
@@ -19,3 +20,11 @@ returns-in-Ok-clause-written g c = acts_written c.args.code.now c.args.process c
 
 pub returns-in-Ok-clause-adds : goal.returns-in-Ok-clause-adds
 returns-in-Ok-clause-adds g c = writes_add c.args.process c.in-Ok.answer c.args.self.now.post c.act.new.self _ _ _ c.written.result c.in-Ok.ensures.adds c.written.ensures
+
+pub returns-in-Ok-clause-wrong : goal.returns-in-Ok-clause-wrong
+returns-in-Ok-clause-wrong g c =
+    writes_wrong c.args.process c.args.self.now.post.wrong c.act.new.self c.written.new.self.post _ _ c.in-Ok.answer c.written.result c.in-Ok.ensures.wrong c.written.ensures
+
+pub returns-in-Ok-clause-tells : goal.returns-in-Ok-clause-tells
+returns-in-Ok-clause-tells g c =
+    writes_tell c.args.process c.args.self.now.post.wrong c.act.new.self c.written.new.self.post _ _ c.args.code.now c.args.self.now.post c.in-Ok.answer c.written.result c.in-Ok.ensures.tells c.written.ensures

@@ -1,7 +1,7 @@
 use Rattle.std.proofs.Common.{None, refl}
 use Rattle.ink_post.specs.Worlds.{world_of}
 use Rattle.ink_post.proofs.HomesLemmas.{home_changed}
-use Rattle.ink_post.proofs.post.Post.lose.Goals as goal
+use Rattle.ink_post.proofs.post.Post.abandon.Goals as goal
 use Rattle.ink_worlds.specs.declared.status.Status.TheVariants.{Stopped}
 
 pub returns-clause-after : goal.returns-clause-after

@@ -7,7 +7,7 @@ use std::alloc::{AllocError, Global};
 
 /// A guard in force: the pattern of its arm, the expression that is matched, and the register that holds it.
 #[derive(Clone, Copy)]
-pub(crate) struct Guard {
+pub struct Guard {
     pub pattern: PatternId,
     pub scrutinee: ExprId,
     pub register: u32,
@@ -22,14 +22,14 @@ impl Guard {
 
 /// The code so far, the guards in force, and the jumps that leave the loops round here.
 #[derive(Drop)]
-pub(crate) struct Work {
+pub struct Work {
     pub body: Body,
     pub guards: Vec<Guard>,
     pub breaks: Vec<Hole>,
 }
 
 /// Adds a jump whose place isn't known yet.
-pub(crate) fn add_hole(holes: &mut Vec<Hole>, hole: Hole) -> Result<(), AllocError> {
+pub fn add_hole(holes: &mut Vec<Hole>, hole: Hole) -> Result<(), AllocError> {
     holes.push(hole)?;
     Ok(())
 }
@@ -51,7 +51,7 @@ impl Work {
     }
 
     /// The guard in force whose pattern binds a variable.
-    pub fn guard_of(&self, variable: u32) -> Option<Guard> {
+    pub(crate) fn guard_of(&self, variable: u32) -> Option<Guard> {
         for guard in &self.guards {
             if guard.binds(variable) {
                 return Some(*guard);

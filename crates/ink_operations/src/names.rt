@@ -8,7 +8,7 @@ use ink_emit::{Given, LowerFault};
 use ink_forms::{ExprId, Literal};
 
 /// A literal. Nil stands in no register yet.
-pub(crate) fn give_literal(
+pub fn give_literal(
     room: &Room,
     work: &mut Work,
     number: ExprId,
@@ -70,11 +70,7 @@ fn taken(room: &Room, number: ExprId, to: u32, from: u32) -> Instr {
 }
 
 /// A variable.
-pub(crate) fn give_variable(
-    room: &Room,
-    work: &mut Work,
-    number: ExprId,
-) -> Result<Given, LowerFault> {
+pub fn give_variable(room: &Room, work: &mut Work, number: ExprId) -> Result<Given, LowerFault> {
     if let Some(register) = read_viewed(room, work, number)? {
         return Ok(Given::At(register));
     }
@@ -86,7 +82,7 @@ pub(crate) fn give_variable(
 }
 
 /// `self`, which in an async type is the reference to this process.
-pub(crate) fn give_self(room: &Room, work: &mut Work, number: ExprId) -> Result<Given, LowerFault> {
+pub fn give_self(room: &Room, work: &mut Work, number: ExprId) -> Result<Given, LowerFault> {
     let to = work.body.free();
     let instr = if room.is_value(number) {
         Instr::MyProc { to }

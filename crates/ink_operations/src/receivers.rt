@@ -11,7 +11,7 @@ use std::alloc::{AllocError, Global};
 
 /// A call of a method of a value, whose receiver's root and arguments were worked.
 #[derive(Clone, Copy)]
-pub(crate) struct Called {
+pub struct Called {
     pub number: ExprId,
     pub receiver: ExprId,
     pub root: Root,

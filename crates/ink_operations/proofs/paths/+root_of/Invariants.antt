@@ -1,4 +1,4 @@
-use Rattle.ink_lower.proofs.paths.+root_of.Given as goal
+use Rattle.ink_operations.proofs.paths.+root_of.Given as goal
 
 abbrev pub decreases-root_of : goal.decreases-root_of
 decreases-root_of l = l.path

@@ -1,4 +1,4 @@
-//! What the walk looks things up in, and where in a body it stands.
+//! What stays the same while a method is walked, and what is looked up in it.
 
 use ink_arms::Context;
 use ink_findings::Target;
@@ -10,7 +10,7 @@ use ink_types::{NIL, Term, TypeId, Types};
 
 /// What `self` is in a method.
 #[derive(Clone, Copy)]
-pub(crate) enum Owner {
+pub enum Owner {
     /// There is none.
     Nobody,
     /// A borrow, of the object or of the state.
@@ -21,45 +21,12 @@ pub(crate) enum Owner {
 
 /// What stays the same in a method.
 #[derive(Clone, Copy)]
-pub(crate) struct Room<'a> {
+pub struct Room<'a> {
     pub arena: &'a Arena,
     pub context: Context<'a>,
     pub plan: &'a DropPlan<'a>,
     pub method: MethodId,
     pub owner: Owner,
-}
-
-/// The innermost loop: the place at which it starts, and how many registers are held there.
-#[derive(Clone, Copy)]
-pub(crate) struct Turn {
-    pub start: u32,
-    pub mark: usize,
-}
-
-/// Where an expression stands.
-#[derive(Clone, Copy)]
-pub(crate) struct Around {
-    /// The first byte of the innermost statement.
-    pub statement: u32,
-    pub turn: Option<Turn>,
-}
-
-impl Around {
-    /// Within a statement that starts at this byte.
-    pub fn stated(self, statement: u32) -> Around {
-        Around {
-            statement,
-            turn: self.turn,
-        }
-    }
-
-    /// Within a loop.
-    pub fn looped(self, turn: Turn) -> Around {
-        Around {
-            statement: self.statement,
-            turn: Some(turn),
-        }
-    }
 }
 
 /// Whether a type is that of nil.

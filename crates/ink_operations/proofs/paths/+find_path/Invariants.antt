@@ -1,4 +1,4 @@
-use Rattle.ink_lower.proofs.paths.+find_path.Given as goal
+use Rattle.ink_operations.proofs.paths.+find_path.Given as goal
 
 abbrev pub decreases-find_path : goal.decreases-find_path
 decreases-find_path l = l.path

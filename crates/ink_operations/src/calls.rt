@@ -23,7 +23,7 @@ const FUTURE_NEW: u32 = 45;
 const STDOUT_PRINT: u32 = 46;
 
 /// A call of a method of a value.
-pub(crate) fn give_call(room: &Room, work: &mut Work, called: Called) -> Result<Given, LowerFault> {
+pub fn give_call(room: &Room, work: &mut Work, called: Called) -> Result<Given, LowerFault> {
     match room.target(called.number) {
         Some(Target::Method(method)) => {
             if room.is_message(Target::Method(method)) {
@@ -219,7 +219,7 @@ fn give_panic(work: &mut Work, line: u32, operands: &Items<u32>) -> Result<Given
 }
 
 /// A form over a list of operands, which are held behind a mark.
-pub(crate) fn give_listed(
+pub fn give_listed(
     room: &Room,
     work: &mut Work,
     number: ExprId,
@@ -235,13 +235,7 @@ pub(crate) fn give_listed(
 }
 
 /// A call whose receiver's root was worked.
-pub(crate) fn called_on(
-    room: &Room,
-    number: ExprId,
-    receiver: ExprId,
-    root: Root,
-    mark: usize,
-) -> Called {
+pub fn called_on(room: &Room, number: ExprId, receiver: ExprId, root: Root, mark: usize) -> Called {
     Called {
         number,
         receiver,

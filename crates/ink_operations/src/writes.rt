@@ -10,7 +10,7 @@ use ink_forms::{Binding, Expr, ExprId};
 use ink_plan::How;
 
 /// Puts the value in a register into the variable that a `let` declares. Under `_` it is dropped.
-pub(crate) fn put_declared(
+pub fn put_declared(
     room: &Room,
     work: &mut Work,
     number: ExprId,
@@ -34,7 +34,7 @@ pub(crate) fn put_declared(
 }
 
 /// The drop of a register, which may be empty where that isn't known.
-pub(crate) fn dropped(how: How, from: u32) -> Instr {
+pub fn dropped(how: How, from: u32) -> Instr {
     match how {
         How::Sure => Instr::Drop { from },
         How::Maybe => Instr::DropMaybe { from },
@@ -91,7 +91,7 @@ fn is_swap(room: &Room, number: ExprId) -> bool {
 }
 
 /// A write to a variable of what this gave.
-pub(crate) fn write_variable(
+pub fn write_variable(
     room: &Room,
     work: &mut Work,
     number: ExprId,
@@ -137,7 +137,7 @@ fn store_field(
 }
 
 /// A write to a field, of the operand behind a mark.
-pub(crate) fn write_field(
+pub fn write_field(
     room: &Room,
     work: &mut Work,
     number: ExprId,

@@ -14,7 +14,7 @@ use ink_members::{field_place, kind_of};
 
 /// What came of a path's root before the arguments or the written value.
 #[derive(Clone, Copy)]
-pub(crate) enum Root {
+pub enum Root {
     /// It is a variable or `self`, and is read later.
     Late,
     /// It is held to the end of the statement, in this register.
@@ -46,7 +46,7 @@ impl Base {
 }
 
 /// The root of a path.
-pub(crate) fn root_of(room: &Room, path: ExprId) -> ExprId
+pub fn root_of(room: &Room, path: ExprId) -> ExprId
     ensures { result ≤ path }
 {
     match room.arena.expr(path).expr {
@@ -62,7 +62,7 @@ pub(crate) fn root_of(room: &Room, path: ExprId) -> ExprId
 }
 
 /// Whether a root is read late.
-pub(crate) fn is_late(room: &Room, root: ExprId) -> bool {
+pub fn is_late(room: &Room, root: ExprId) -> bool {
     matches!(
         room.arena.expr(root).expr,
         Expr::Var { .. } | Expr::SelfValue
@@ -71,7 +71,7 @@ pub(crate) fn is_late(room: &Room, root: ExprId) -> bool {
 
 /// Holds a root that was worked. One that an instruction takes away, and one of a value type, is an operand if it is the
 /// whole path, and any other is a temporary.
-pub(crate) fn hold_root(
+pub fn hold_root(
     room: &Room,
     work: &mut Work,
     root: ExprId,
@@ -188,7 +188,7 @@ pub(crate) fn find_path(
 }
 
 /// A field as a value, of whose base this came before.
-pub(crate) fn give_field(
+pub fn give_field(
     room: &Room,
     work: &mut Work,
     number: ExprId,
@@ -203,7 +203,7 @@ pub(crate) fn give_field(
 }
 
 /// A borrow of what a path names, of which this came before.
-pub(crate) fn give_borrow(
+pub fn give_borrow(
     room: &Room,
     work: &mut Work,
     number: ExprId,

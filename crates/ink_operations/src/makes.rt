@@ -54,7 +54,7 @@ fn declared_order(
 }
 
 /// A new object, or a new process where its type is async, whose arguments are held behind a mark.
-pub(crate) fn give_new(
+pub fn give_new(
     room: &Room,
     work: &mut Work,
     number: ExprId,
