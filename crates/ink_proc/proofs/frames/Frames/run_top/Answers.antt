@@ -13,6 +13,6 @@ returns-clause-runs c limits =
     let behind : reverse (set items index c.run_in_frame.new.frame) ≡ c.run_in_frame.new.frame ∷ reverse (take index items) = front-set items index c.run_in_frame.new.frame end in
     let P : List Frame → List Frame → Type 0 = λ old new. Runs c.args.code.now limits c.run_in_frame.result old new in
     subst (λ old. P old (reverse (set items index c.run_in_frame.new.frame))) c.self.view_is
-        (subst (λ old. P old (reverse (set items index c.run_in_frame.new.frame))) (sym before)
-            (subst (P (c.index_mut-frame.result.now ∷ reverse (take index items))) (sym behind)
-                (c.run_in_frame.ensures.runs limits (reverse (take index items)))))
+    (subst (λ old. P old (reverse (set items index c.run_in_frame.new.frame))) (sym before)
+    (subst (P (c.index_mut-frame.result.now ∷ reverse (take index items))) (sym behind)
+    (c.run_in_frame.ensures.runs limits (reverse (take index items)))))
