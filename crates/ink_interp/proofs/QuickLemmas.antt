@@ -64,6 +64,12 @@ none_waits (value ∷ others) none = cc
 same_process : (p : Process) → p.pending ≡ [] → with_frames p p.ran p.frames ≡ p
 same_process p none = ap (λ (pending : List Value). record p { pending = pending }) (sym none)
 
+-- no steps
+pub none_leads : (code : Code) (limits : List ℕ) (p : Process) → Leads code limits 0 p p
+none_leads code limits p rest =
+    let all : 0 + rest ≡ rest = omega arith in
+    ap (λ most. slice_of most code limits p) all
+
 -- the steps of a process's frames are its steps
 pub made_steps : (code : Code) (limits : List ℕ) (p : Process) (made : ℕ) (new : List Frame) → p.pending ≡ [] → p.ran + made ≤ limit_of limit.Local limits → Runs code limits made p.frames new → Leads code limits made p (record p { frames = new; ran = p.ran + made })
 made_steps code limits p made new none fits runs rest =

@@ -32,14 +32,16 @@ fn change_frame(
     ensures { IsChange code.now limits.now result frames.old frames.new }
 {
     match current(code, frames) {
-        Some((
-            _,
-            Instr::Invoke {
-                to,
-                method,
-                arguments,
-            },
-        )) => call_if_room(
+        Some(
+            (
+                _,
+                Instr::Invoke {
+                    to,
+                    method,
+                    arguments,
+                },
+            ),
+        ) => call_if_room(
             alloc,
             frames,
             code,
