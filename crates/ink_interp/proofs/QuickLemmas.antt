@@ -15,7 +15,7 @@ use Rattle.ink_code.specs.Process.{Process}
 use Rattle.ink_code.specs.Slice.{goes_on, slice_of}
 use Rattle.ink_code.specs.Step.{code_step, instr_step}
 use Rattle.ink_interp.specs.Quick.{IsChange, IsRun}
-use Rattle.ink_quick.specs.Makes.{Leads, Runs, with_frames}
+use Rattle.ink_quick.specs.Makes.{Leads, Runs, StepsTo, with_frames}
 use Rattle.ink_quick.proofs.RunLemmas.{first_step, top_goes}
 use Rattle.ink_steps.specs.Answers.{ChangesFrames}
 
@@ -29,21 +29,31 @@ current_goes code limits (frame ∷ outer) instr p ran at low = top_goes code li
 pub calls : (code : Code) (limits : List ℕ) (frames new : List Frame) (to method : ℕ) (arguments : List ℕ) (result : Result Bool Wrong) → current code frames ≡ Some (i.Invoke to method arguments)
     → ChangesFrames (λ p. invoke_step code limits to method arguments p) result frames new → IsChange code limits result frames new
 unfolding instr_step
-calls code limits frames new to method arguments (Ok true) at changes p ran low =
+calls code limits frames new to method arguments (Ok true) at changes = λ p ran low.
     current_goes code limits frames (i.Invoke to method arguments) p ran at low ∙ changes (with_frames p ran frames)
 calls code limits frames new to method arguments (Ok false) at changes = changes
-calls code limits frames new to method arguments (Err why) at changes p ran low =
+calls code limits frames new to method arguments (Err why) at changes = λ p ran low.
     current_goes code limits frames (i.Invoke to method arguments) p ran at low ∙ changes (with_frames p ran frames)
 
 -- the instruction in work ends the frame
 pub returns : (code : Code) (limits : List ℕ) (frames new : List Frame) (from : ℕ) (result : Result Bool Wrong) → current code frames ≡ Some (i.Return from)
     → ChangesFrames (λ p. return_step code from p) result frames new → IsChange code limits result frames new
 unfolding instr_step
-returns code limits frames new from (Ok true) at changes p ran low =
+returns code limits frames new from (Ok true) at changes = λ p ran low.
     current_goes code limits frames (i.Return from) p ran at low ∙ changes (with_frames p ran frames)
 returns code limits frames new from (Ok false) at changes = changes
-returns code limits frames new from (Err why) at changes p ran low =
+returns code limits frames new from (Err why) at changes = λ p ran low.
     current_goes code limits frames (i.Return from) p ran at low ∙ changes (with_frames p ran frames)
+
+-- nothing was done
+pub none_changed : (code : Code) (limits : List ℕ) (changed : Bool) (old new : List Frame) → changed ≡ false → IsChange code limits (Ok changed) old new → new ≡ old
+none_changed code limits true old new is change = absurd cc
+none_changed code limits false old new is change = change
+
+-- a step was made
+pub one_changed : (code : Code) (limits : List ℕ) (changed : Bool) (old new : List Frame) → changed ≡ true → IsChange code limits (Ok changed) old new → StepsTo code limits old new
+one_changed code limits true old new is change = change
+one_changed code limits false old new is change = absurd cc
 
 -- behind so many steps the next one is wrong
 pub wrong_run : (code : Code) (limits : List ℕ) (made most : ℕ) (old middle new : List Frame) (why : Wrong) → made < most → Runs code limits made old middle → IsChange code limits (Err why) middle new → IsRun code limits most (Err why) old new

@@ -1,4 +1,7 @@
 //! Steps that touch the frames alone, made many at a time.
+ghost use Rattle.std.specs.Prelude.{◌≡◌, ◌+◌, ◌^◌, ◌<◌, ◌≤◌, []};
+ghost use Rattle.ink_base.specs.declared.limits.Limit.TheVariants as limit;
+ghost use Rattle.ink_base.specs.Limits.{limit_of};
 ghost use Rattle.ink_code.specs.Calls.{return_step};
 ghost use Rattle.ink_interp.specs.Quick.{IsChange, IsQuick, IsRun};
 ghost use Rattle.ink_proc.specs.State.{state_of};
@@ -7,7 +10,7 @@ ghost use Rattle.ink_steps.specs.Answers.{ChangesFrames};
 use crate::answering::current;
 use ink_base::{Limit, Limits};
 use ink_code::{Code, Instr, Wrong};
-use ink_proc::{Frames, Proc};
+use ink_proc::{Frames, Pending, Proc};
 use ink_steps::{call_if_room, end_frame};
 use std::alloc::Global;
 
@@ -80,7 +83,26 @@ fn run_frames(
     Ok(made)
 }
 
+/// How many steps of a process are made here at once, of so many at most: none where a drop waits.
+#[tactic(auto, using(crate::proofs::QuickLemmas::none_waits))]
+fn most_at_once(pending: &Pending, ran: u64, limits: &Limits, most: u64) -> u64
+    ensures most { result ≤ most }
+    ensures free { 0 < result → pending.now ≡ [] }
+    ensures fits { 0 < result → ran + result ≤ limit_of limit.Local limits.now }
+    ensures range { ran + result < 2 ^ 64 }
+{
+    let local = limits.get(Limit::Local);
+    if local <= ran {
+        return 0;
+    }
+    if pending.first().is_some() {
+        return 0;
+    }
+    most.min(local - ran)
+}
+
 /// At most so many steps of a process, up to the first that isn't made here: how many were made.
+#[tactic(auto, using(crate::proofs::QuickLemmas::none_leads))]
 pub(crate) fn run_quick(
     alloc: Global,
     proc: &mut Proc,
@@ -90,15 +112,11 @@ pub(crate) fn run_quick(
 ) -> Result<u64, Wrong>
     ensures { IsQuick code.now limits.now most result (state_of proc.old) (state_of proc.new) }
 {
-    let local = limits.get(Limit::Local);
-    if local <= proc.ran {
+    let few = most_at_once(&proc.pending, proc.ran, limits, most);
+    if few == 0 {
         return Ok(0);
     }
-    if proc.pending.first().is_some() {
-        return Ok(0);
-    }
-    let most = most.min(local - proc.ran);
-    match run_frames(alloc, &mut proc.frames, code, limits, most) {
+    match run_frames(alloc, &mut proc.frames, code, limits, few) {
         Err(why) => Err(why),
         Ok(made) => {
             proc.ran += made;
