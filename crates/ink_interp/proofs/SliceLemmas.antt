@@ -1,5 +1,5 @@
 -- One more step of a slice.
-use Rattle.std.proofs.Common.{◌≡◌, ◌≢◌, ℕ, suc, ◌+◌, ◌-◌, ◌<◌, Result, Ok, Err, List, refl, ap, ◌∙◌, sym, arith}
+use Rattle.std.proofs.Common.{◌≡◌, ◌≢◌, ℕ, suc, ◌+◌, ◌-◌, ◌<◌, ◌≤◌, Result, Ok, Err, List, refl, ap, ◌∙◌, sym, arith}
 use Rattle.ink_code.specs.declared.code.Code.{Code}
 use Rattle.ink_code.specs.declared.wrong.Wrong.{Wrong}
 use Rattle.ink_code.specs.Machine as machine
@@ -7,6 +7,7 @@ use Rattle.ink_code.specs.Process.{Process}
 use Rattle.ink_code.specs.Slice.{goes_on, slice_of}
 use Rattle.ink_code.specs.Step.{code_step}
 use Rattle.ink_interp.specs.Slices.{AnswersSlice}
+use Rattle.ink_quick.specs.Makes.{Leads as LeadsOn}
 use Rattle.ink_steps.specs.Answers.{Answers, told}
 use Rattle.ink_steps.specs.declared.stepped.StepFault.{StepFault}
 use Rattle.ink_steps.specs.declared.stepped.StepFault.TheVariants as fault
@@ -30,6 +31,18 @@ module _ (code : Code) (limits : List ℕ) (start : Process) where
       ∙ leads (suc rest)
       ∙ first_step rest p
       ∙ ap (λ outcome. goes_on outcome (λ q. slice_of rest code limits q)) step
+
+  -- more steps that were made at once lead so many further
+  pub leads_far : (made count : ℕ) (p q : Process) → Leads made p → LeadsOn code limits count p q → Leads (made + count) q
+  leads_far made count p q leads far rest =
+      let longer : made + count + rest ≡ made + (count + rest) = omega arith in
+      ap (λ most. slice_of most code limits start) longer ∙ leads (count + rest) ∙ far rest
+
+  -- a slice that is wrong behind so many steps
+  pub wrong_far : (made most : ℕ) (p : Process) (why : Wrong) → made ≤ most → Leads made p → slice_of (most - made) code limits p ≡ Err why → slice_of most code limits start ≡ Err why
+  wrong_far made most p why low leads wrong =
+      let all : most ≡ made + (most - made) = omega (arith, low) in
+      ap (λ most. slice_of most code limits start) all ∙ leads (most - made) ∙ wrong
 
   -- so many steps led to the process
   pub led : (made : ℕ) (p : Process) → Leads made p → slice_of made code limits start ≡ Ok (machine.Went, p)

@@ -1,3 +1,4 @@
 pub mod Answers
+pub mod Quick
 pub mod Rows
 pub mod Slices

@@ -17,7 +17,7 @@ use std::alloc::Global;
 
 /// The place behind the instruction in work of the innermost frame, and that instruction. `None` where there is no frame,
 /// or no instruction at its place.
-fn current<'a>(code: &'a Code, frames: &Frames) -> Option<(u32, &'a Instr)>
+pub(crate) fn current<'a>(code: &'a Code, frames: &Frames) -> Option<(u32, &'a Instr)>
     ensures { MatchOption result
         (current code.now frames.now ≡ Option.None)
         (λ work. (current code.now frames.now ≡ Option.Some work.1.now) × (next_place frames.now ≡ work.0)) }

@@ -8,6 +8,7 @@ mod answering;
 mod begin;
 mod instr;
 mod prim;
+mod quick;
 mod reply;
 mod slicing;
 mod stepping;

@@ -5,6 +5,7 @@ ghost use Rattle.ink_interp.specs.Slices.{AnswersSlice};
 ghost use Rattle.ink_proc.specs.State.{state_of};
 ghost use Rattle.ink_steps.specs.declared.stepped.Stepped.TheVariants.{Went};
 
+use crate::quick::run_quick;
 use crate::stepping::step;
 use ink_base::Limits;
 use ink_code::Code;
@@ -32,11 +33,20 @@ pub fn slice(
 ) -> Result<Stepped, StepFault>
     ensures { AnswersSlice turns code.now limits.now result (state_of proc.old) (state_of proc.new) }
 {
+    let mut made = 0;
     for _ in 0..turns {
+        match run_quick(alloc, proc, code, limits, turns - made) {
+            Err(why) => return Err(StepFault::Wrong(why)),
+            Ok(count) => made += count,
+        }
+        if made >= turns {
+            return Ok(Stepped::Went);
+        }
         let came = step(alloc, proc, code, limits);
         if !went_on(&came) {
             return came;
         }
+        made += 1;
     }
     Ok(Stepped::Went)
 }

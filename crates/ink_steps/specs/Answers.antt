@@ -1,8 +1,9 @@
 -- How an answer of the interpreter tells an outcome of the code machine.
-use Rattle.std.specs.Prelude.{◌≡◌, ℕ, ◌<◌, ◌^◌, Result, Ok, Err, List}
+use Rattle.std.specs.Prelude.{◌≡◌, ℕ, ◌+◌, ◌<◌, ◌^◌, Bool, true, false, Result, Ok, Err, List}
 use Rattle.ink_base.specs.Actions.{Action}
 use Rattle.ink_base.specs.Actions as action
 use Rattle.ink_code.specs.declared.wrong.Wrong.{Wrong}
+use Rattle.ink_code.specs.declared.frame.Frame.{Frame}
 use Rattle.ink_code.specs.Machine as machine
 use Rattle.ink_base.specs.Objects.{Objects}
 use Rattle.ink_base.specs.declared.value.Value.{Value}
@@ -78,3 +79,16 @@ abbrev pub IsCut : Result Parted Wrong → Result Parcel StepFault → List Valu
 IsCut parted (Ok parcel) values left = (parted ≡ Ok (record { left = left; taken = parcel.objects })) × (parcel.values ≡ values)
 IsCut parted (Err (fault.Wrong why)) values left = parted ≡ Err why
 IsCut parted (Err fault.OutOfMemory) values left = Unit {0}
+
+-- whatever process has these frames: the step is made and leaves it with those, or the instruction is wrong in that way
+abbrev pub EndsFrame : (Process → machine.Outcome) → Result (Unit {0}) Wrong → List Frame → List Frame → Type 0
+EndsFrame definition (Ok _) old new =
+    (p : Process) → definition (record p { frames = old }) ≡ Ok (machine.Went, record p { frames = new; ran = p.ran + 1 })
+EndsFrame definition (Err why) old new = (p : Process) → definition (record p { frames = old }) ≡ Err why
+
+-- the same, or nothing is done
+abbrev pub ChangesFrames : (Process → machine.Outcome) → Result Bool Wrong → List Frame → List Frame → Type 0
+ChangesFrames definition (Ok true) old new =
+    (p : Process) → definition (record p { frames = old }) ≡ Ok (machine.Went, record p { frames = new; ran = p.ran + 1 })
+ChangesFrames definition (Ok false) old new = new ≡ old
+ChangesFrames definition (Err why) old new = (p : Process) → definition (record p { frames = old }) ≡ Err why

@@ -1,15 +1,17 @@
 //! The instructions that begin and end frames.
-ghost use Rattle.std.specs.Prelude.{◌≡◌, slice_get};
+ghost use Rattle.std.specs.Prelude.{◌≡◌, length, slice_get, IsTrue, Option};
 ghost use Rattle.std.specs.Option.{option_copied};
 ghost use Rattle.ink_code.specs.Calls.{first_register, invoke_bound_step, invoke_step, method_in, return_step, target_of};
 ghost use Rattle.ink_code.specs.Process.{held};
-ghost use Rattle.ink_steps.specs.Answers.{IsStep, MayStep};
+ghost use Rattle.ink_base.specs.declared.limits.Limit.TheVariants as limit;
+ghost use Rattle.ink_base.specs.Actions.{reached};
+ghost use Rattle.ink_steps.specs.Answers.{ChangesFrames, EndsFrame, IsStep, MayStep};
 
 use crate::reads::{object_of, register_value};
 use crate::stepped::{StepFault, Stepped};
 use ink_base::{Limit, Limits, Value};
 use ink_code::{Code, Frame, Impl, Instr, Wrong};
-use ink_proc::{EnterFault, Proc};
+use ink_proc::{EnterFault, Frames, Proc};
 use ink_rows::texts::reached_text;
 use std::alloc::Global;
 
@@ -47,6 +49,43 @@ pub fn invoke_step(
             proc.ran += 1;
             Ok(Stepped::Went)
         }
+    }
+}
+
+/// Whether there may be a frame more.
+fn may_enter(limits: &Limits, frames: &Frames) -> bool
+    ensures { IsTrue result → reached limit.Frames (length frames.now) limits.now ≡ Option.None }
+{
+    limits.get(Limit::Frames) > frames.len()
+}
+
+/// A method is called with the values of registers, where nothing keeps its frame from being made. Else all is as before.
+#[tactic(auto, unfolding(ink_code::specs::Calls::invoke_step, ink_code::specs::Machine::given, ink_code::specs::Machine::unless_text, ink_code::specs::Machine::after))]
+pub fn call_if_room(
+    alloc: Global,
+    frames: &mut Frames,
+    code: &Code,
+    limits: &Limits,
+    to: u32,
+    method: u32,
+    arguments: &[u32],
+) -> Result<bool, Wrong>
+    ensures { ChangesFrames (invoke_step code.now limits.now to method arguments.now) result frames.old frames.new }
+{
+    if !frames.has(to) {
+        return Ok(false);
+    }
+    let called = match code.methods.get(u64::from(method)) {
+        None => return Ok(false),
+        Some(called) => called,
+    };
+    if !may_enter(limits, frames) {
+        return Ok(false);
+    }
+    match frames.enter(alloc, method, called.registers, arguments) {
+        Err(EnterFault::Wrong(why)) => Err(why),
+        Err(EnterFault::OutOfMemory) => Ok(false),
+        Ok(()) => Ok(true),
     }
 }
 
@@ -126,31 +165,40 @@ fn value_of(mut frame: Frame, number: u32) -> Result<Value, Wrong>
 
 /// The innermost frame ends with the value of a register.
 #[tactic(auto, unfolding(ink_code::specs::Calls::return_step, ink_code::specs::Machine::given, ink_code::specs::Machine::after))]
-pub fn return_step(proc: &mut Proc, code: &Code, from: u32) -> Result<Stepped, StepFault>
-    requires { MayStep proc.old }
-    ensures { IsStep (return_step code.now from) result proc.old proc.new }
+pub fn end_frame(frames: &mut Frames, code: &Code, from: u32) -> Result<(), Wrong>
+    ensures { EndsFrame (return_step code.now from) result frames.old frames.new }
 {
-    let frame = match proc.frames.pop() {
-        None => return Err(StepFault::Wrong(Wrong::Absent)),
+    let frame = match frames.pop() {
+        None => return Err(Wrong::Absent),
         Some(frame) => frame,
     };
     let value = match value_of(frame, from) {
-        Err(why) => return Err(StepFault::Wrong(why)),
+        Err(why) => return Err(why),
         Ok(value) => value,
     };
-    let outer = match proc.frames.top() {
-        None => {
-            proc.ran += 1;
-            return Ok(Stepped::Went);
-        }
+    let outer = match frames.top() {
+        None => return Ok(()),
         Some(outer) => outer,
     };
     let next = outer.place;
     match target_of(code.fetch(outer.method, outer.place)) {
-        None => Err(StepFault::Wrong(Wrong::Absent)),
+        None => Err(Wrong::Absent),
         Some(to) => {
-            proc.frames.set(to, value);
-            proc.frames.go_on(next + 1);
+            frames.set(to, value);
+            frames.go_on(next + 1);
+            Ok(())
+        }
+    }
+}
+
+/// The same, as a step.
+pub fn return_step(proc: &mut Proc, code: &Code, from: u32) -> Result<Stepped, StepFault>
+    requires { MayStep proc.old }
+    ensures { IsStep (return_step code.now from) result proc.old proc.new }
+{
+    match end_frame(&mut proc.frames, code, from) {
+        Err(why) => Err(StepFault::Wrong(why)),
+        Ok(()) => {
             proc.ran += 1;
             Ok(Stepped::Went)
         }

@@ -13,7 +13,7 @@ mod reads;
 mod stepped;
 mod wants;
 
-pub use calls::{invoke_bound_step, invoke_step, return_step};
+pub use calls::{call_if_room, end_frame, invoke_bound_step, invoke_step, return_step};
 pub use drops::{drop_maybe_step, drop_next, drop_step, take_apart_step};
 pub use makes::{make_array_step, make_step};
 pub use moves::{
