@@ -53,8 +53,8 @@ module _ (code : Code) (process : ℕ) (old : Post) (stands : Stands code old) w
   looks_go : (new : Post) → LooksAs code process old new looked.Enabled → CanGo code process old
   looks_go new looks =
       let by = looks.lends stands.0 in
-      let stood = (checks_out m old.limits (opening_run code) (world_of old stands.0) process process looks.p stands.1 by.0 by.1).1 in
-      let comes = comes_by code old.limits old.journal.entries process looks.sees.turns looks.p looks.sees.q looks.sees.stepped stood
+      let out = checks_out m old.limits (opening_run code) (world_of old stands.0) process process looks.p stands.1 by.0 by.1 in
+      let comes = comes_by code old.limits old.journal.entries process looks.sees.turns looks.p looks.sees.q looks.sees.stepped out.1 out.2
       (subst (λ (l : List ℕ). AnswersSlice looks.sees.turns code l looks.sees.stepped looks.p looks.sees.q) looks.limits looks.sees.sliced) in
       goes_by comes.before looks.sees.q (world_of looks.middle stands.0) (world_of new stands.0) comes.stood (told_came (came_with looks.sees.stepped)) comes.from
       (ap (λ (s : CodeState). s.shared) by.2) (looks.sees.sees stands.0)

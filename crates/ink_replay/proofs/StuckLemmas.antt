@@ -163,8 +163,8 @@ module _ (code : Code) (process : ℕ) (old : Post) (stands : Stands code old) w
   acts_stuck : (new : Post) → ActsAs code process old new a.Waits → IsStuck code process old
   acts_stuck new acts =
       let by = acts.lends stands.0 in
-      let stood = (checks_out M old.limits (opening_run code) (world_of old stands.0) process process acts.p stands.1 by.0 by.1).1 in
-      let comes = comes_by code old.limits old.journal.entries process acts.goes.turns acts.p acts.goes.q acts.goes.stepped stood
+      let out = checks_out M old.limits (opening_run code) (world_of old stands.0) process process acts.p stands.1 by.0 by.1 in
+      let comes = comes_by code old.limits old.journal.entries process acts.goes.turns acts.p acts.goes.q acts.goes.stepped out.1 out.2
       (subst (λ (l : List ℕ). AnswersSlice acts.goes.turns code l acts.goes.stepped acts.p acts.goes.q) acts.limits acts.goes.sliced) in
       came_stuck acts.middle.limits comes.before acts.goes.q (world_of acts.middle stands.0) (world_of new stands.0) comes.stood (told_came (came_with acts.goes.stepped)) comes.from
       (ap (λ (s : CodeState). s.shared) by.2) (acts.goes.checks stands.0)
