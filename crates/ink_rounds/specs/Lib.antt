@@ -1,4 +1,6 @@
 pub mod Faults
 pub mod Homes
 pub mod Lent
+pub mod Machine
+pub mod Runs
 pub mod Stops
