@@ -1,5 +1,5 @@
 -- A kept world follows the machine through a check-in.
-use Rattle.std.proofs.Common.{◌≡◌, ◌≢◌, ℕ, ◌≤◌, Bool, true, false, Option, None, Some, Result, Ok, Err, List, [], ◌∷◌, ◌++◌, length, refl, sym, ap, ◌∙◌, subst, inl, inr, ◌⊎◌}
+use Rattle.std.proofs.Common.{◌≡◌, ◌≢◌, ℕ, ◌≤◌, Bool, true, false, Option, None, Some, Result, Ok, Err, List, [], ◌∷◌, ◌++◌, length, le_trans, refl, sym, ap, ◌∙◌, subst, inl, inr, ◌⊎◌}
 use Rattle.ink_base.specs.Actions.{SharedState}
 use Rattle.ink_base.specs.Actions as action
 use Rattle.ink_code.specs.declared.code.Code.{Code}
@@ -16,10 +16,10 @@ use Rattle.ink_post.specs.declared.answer.Answer.TheVariants as a
 use Rattle.ink_post.specs.declared.answer.Came.{Came}
 use Rattle.ink_post.specs.declared.answer.Came.TheVariants as c
 use Rattle.ink_post.specs.declared.post.Post.{Post}
-use Rattle.ink_rounds.specs.Machine.{AreOthers, Begins, CameFrom, Follows, Gone, IsAs, IsOutcome, MakesNothing, slice_from}
+use Rattle.ink_rounds.specs.Machine.{AllCameFrom, AreOthers, Awaits, Begins, Follows, Gone, IsAs, IsOutcome, MakesNothing, slice_from}
 use Rattle.ink_rounds.specs.declared.lent.Lent.{Lent}
 use Rattle.ink_rounds.proofs.CheckingIn.{came_by, checked_as}
-use Rattle.ink_rounds.proofs.Growing.{begins_on, begins_same, check_grows}
+use Rattle.ink_rounds.proofs.Growing.{begins_on, begins_same, check_grows, check_more}
 use Rattle.ink_run.specs.Sinks.{SinkState}
 use Rattle.ink_run.specs.Written.{ChecksOut, Writes, WritesLine, applied_of}
 use Rattle.ink_run.specs.declared.applied.Applied.{Applied}
@@ -151,7 +151,7 @@ is_failed (Some (halt.Events process)) = inr (λ e. cc)
 is_failed (Some (halt.Local process steps)) = inr (λ e. cc)
 
 module _ (code : Code) (old new : Post) (x : Lent) (p : Process) (gone : Gone) (last : ℕ) (others : AreOthers x.number last gone) (run : RoundState) (follows : Follows true ((x.number, p) ∷ gone) old run)
-    (low : last ≤ length old.homes.items) (under : last ≤ length old.statuses.items) where
+    (low : last ≤ length run.world.processes) (under : last ≤ length run.statuses) where
   next : RoundState
   next = checked_in code old.limits x.number (slice_from code old.limits p) run
 
@@ -163,7 +163,7 @@ module _ (code : Code) (old new : Post) (x : Lent) (p : Process) (gone : Gone) (
 
   -- what the process came to is done as the machine does it, unless there was no memory for its slice or a sink failed
   module _ (came : Came) (q : Process) (outcomes : x.is_whole ≡ true → IsOutcome came q (slice_from code old.limits p)) (idle : x.is_whole ≡ false → MakesNothing came)
-      (processes : length run.world.processes ≡ length old.homes.items) (statuses : length run.statuses ≡ length old.statuses.items) (before after : SinkState) (g : Applied) (right : g ≢ got.Wrong) (out : ChecksOut code x.number came q old new before after g) where
+      (before after : SinkState) (g : Applied) (right : g ≢ got.Wrong) (out : ChecksOut code x.number came q old new before after g) where
     went : WentOut out.middle new
     went = went_out out.answer out.middle new before after g out.writes
 
@@ -178,7 +178,7 @@ module _ (code : Code) (old new : Post) (x : Lent) (p : Process) (gone : Gone) (
     middle_as whole sound =
         at_output gone out.middle next (with_line out.answer run.world.shared.output)
         (outcome_as code old.limits x.number p gone last others (world_of old run.world.shared.output) run (follows.exact refl sound)
-        (subst (λ (n : ℕ). last ≤ n) (sym processes) low) (subst (λ (n : ℕ). last ≤ n) (sym statuses) under) sound
+        low under sound
         came q (slice_from code old.limits p) out.answer (world_of out.middle (with_line out.answer run.world.shared.output)) (outcomes whole) right_one (out.checks run.world.shared.output))
 
     exact_on : x.is_whole ≡ true → new.halt ≢ Some halt.SinkFailed → old.halt ≢ Some halt.SinkFailed → IsAs gone (world_of new next.world.shared.output) next
@@ -209,3 +209,54 @@ module _ (code : Code) (old new : Post) (x : Lent) (p : Process) (gone : Gone) (
       exact = λ whole still. exact_on whole still (λ failed. still (middle_failed failed));
       begins = begins_by x.is_whole refl;
     }
+
+-- the first of those that are awaited comes home
+module _ (code : Code) (old new : Post) (x : Lent) (g : ℕ × Process) (gone : Gone) (lent : List Lent) (run : RoundState) (awaits : Awaits code (g ∷ gone) (x ∷ lent) old run) where
+  abbrev next_run : RoundState
+  next_run = checked_in code old.limits g.0 (slice_from code old.limits g.1) run
+
+  its_number : x.number ≡ g.0
+  its_number = awaits.came.0
+
+  others_lent : AreOthers x.number awaits.last gone
+  others_lent = subst (λ (n : ℕ). AreOthers n awaits.last gone) (sym its_number) awaits.apart.0
+
+  as_numbered : Follows true ((x.number, g.1) ∷ gone) old run
+  as_numbered = subst (λ (n : ℕ). Follows true ((n, g.1) ∷ gone) old run) (sym its_number) awaits.follows
+
+  -- what it came to is done, unless there was no memory for its slice
+  pub home_next : (before after : SinkState) (g' : Applied) → g' ≢ got.Wrong → ChecksOut code x.number x.came (state_of x.proc) old new before after g' → Follows x.is_whole gone new next_run
+  home_next before after g' right out =
+      subst (λ (n : ℕ). Follows x.is_whole gone new (checked_in code old.limits n (slice_from code old.limits g.1) run)) its_number
+      (home_follows code old new x g.1 gone awaits.last others_lent run as_numbered awaits.processes awaits.statuses
+      x.came (state_of x.proc) awaits.came.1.whole awaits.came.1.idle before after g' right out)
+
+  -- it comes home, and nothing is done
+  pub idle_next : new.journal.entries ≡ old.journal.entries → Follows false gone new next_run
+  idle_next same = record {
+    exact = λ whole. absurd (cc);
+    begins = subst (λ (n : ℕ). Begins new.journal.entries (checked_in code old.limits n (slice_from code old.limits g.1) run).journal) its_number
+        (still_begins code old new x g.1 gone awaits.last others_lent run as_numbered awaits.processes awaits.statuses same);
+  }
+
+  -- and the others are awaited still
+  pub awaits_next : new.limits ≡ old.limits → Follows true gone new next_run → Awaits code gone lent new next_run
+  awaits_next limits follows =
+      let more = check_more code old.limits g.0 run (slice_from code old.limits g.1) in
+      let low = awaits.processes in
+      let under = awaits.statuses in
+      record {
+        follows = follows;
+        came = subst (λ (l : List ℕ). AllCameFrom code l gone lent) (sym limits) awaits.came.2;
+        last = awaits.last;
+        apart = awaits.apart.1;
+        processes = le_trans low more.0;
+        statuses = le_trans under more.1;
+      }
+
+-- what makes nothing leaves the journal
+pub idle_stays : (code : Code) (number : ℕ) (came : Came) (q : Process) (old new : Post) (before after : SinkState) (g : Applied) → MakesNothing came → g ≢ got.Wrong → ChecksOut code number came q old new before after g → new.journal.entries ≡ old.journal.entries
+idle_stays code number came q old new before after g idle right out =
+    let answered : out.answer ≢ a.Wrong = right_answer out.answer out.middle new before after g right out.writes in
+    same_entries out.middle new (went_out out.answer out.middle new before after g out.writes)
+    ∙ idle_journal code old.limits number q (world_of old []) (world_of out.middle (with_line out.answer [])) came out.answer idle answered (out.checks [])

@@ -1,5 +1,5 @@
 -- A kept world beside a run in rounds as the machine has it.
-use Rattle.std.specs.Prelude.{◌≡◌, ◌≢◌, ◌+◌, ◌≤◌, ◌<◌, ℕ, Bool, true, false, Option, None, Some, Ok, List, [], ◌∷◌, ◌++◌, map}
+use Rattle.std.specs.Prelude.{◌≡◌, ◌≢◌, ◌+◌, ◌≤◌, ℕ, Bool, true, false, Option, None, Some, Ok, List, [], ◌∷◌, ◌++◌, length, map}
 use Rattle.std.specs.List.{list_any}
 use Rattle.ink_base.specs.declared.limits.Limit.TheVariants as limit
 use Rattle.ink_base.specs.Ends.{End, Panicked, EventLimit, LocalLimit}
@@ -8,7 +8,7 @@ use Rattle.ink_base.specs.Numbered.{set_numbered}
 use Rattle.ink_code.specs.declared.code.Code.{Code}
 use Rattle.ink_code.specs.Machine.{Outcome, Went, Wants, Panics, Spent}
 use Rattle.ink_code.specs.Process.{Process}
-use Rattle.ink_code.specs.Rounds.{RoundState, checked_in}
+use Rattle.ink_code.specs.Rounds.{RoundState, checked_in, round}
 use Rattle.ink_code.specs.Rounds as machine
 use Rattle.ink_code.specs.Slice.{slice_of}
 use Rattle.ink_post.specs.Worlds.{CodeState, home_of, world_of}
@@ -102,6 +102,11 @@ MakesNothing (came.Panics text) = ⊥
 MakesNothing (came.Spent steps) = ⊥
 MakesNothing came.Wrong = Unit {0}
 
+-- with what a process comes home whose action is never made
+abbrev pub idle_came : Came → Came
+idle_came came.Wrong = came.Wrong
+idle_came other = came.GivesUp
+
 abbrev pub slice_from : Code → List ℕ → Process → Outcome
 slice_from code limits p = slice_of (limit_of limit.Slice limits) code limits p
 
@@ -150,3 +155,33 @@ pub record LendsAll (whole : Bool) (old new : Post) (gone : Gone) : Type 0 where
   pub ready : gone ++ rest ≡ ready_in old
   pub all : whole ≡ true → rest ≡ []
   pub after : (output : List ℕ) → world_of new output ≡ (let state = world_of old output in record state { homes = homes_without gone state.homes; statuses = statuses_without gone state.statuses })
+
+-- these are other processes each, up to the last that there is
+abbrev pub AreApart : ℕ → Gone → Type 0
+AreApart last [] = Unit {0}
+AreApart last (x ∷ gone) = AreOthers x.0 last gone × AreApart last gone
+
+-- a world follows the machine but for processes that are lent, and these come home with what their slices came to
+pub record Awaits (code : Code) (gone : Gone) (lent : List Lent) (post : Post) (run : RoundState) : Type 0 where
+  pub follows : Follows true gone post run
+  pub came : AllCameFrom code post.limits gone lent
+  pub last : ℕ
+  pub apart : AreApart last gone
+  pub processes : last ≤ length run.world.processes
+  pub statuses : last ≤ length run.statuses
+
+-- the first of these came home, as in the machine
+abbrev pub FollowsNext : Code → Bool → Lent → Post → Post → Type 0
+FollowsNext code whole x old new =
+    (g : ℕ × Process) (gone : Gone) (lent : List Lent) (run : RoundState) → Awaits code (g ∷ gone) (x ∷ lent) old run
+    → Follows whole gone new (checked_in code old.limits g.0 (slice_from code old.limits g.1) run)
+
+-- all of these came home, as in the machine
+abbrev pub FollowsAll : Code → Bool → List Lent → Post → Post → Type 0
+FollowsAll code whole lent old new =
+    (gone : Gone) (run : RoundState) → Awaits code gone lent old run → Follows whole [] new (all_checked_in code old.limits gone run)
+
+-- a world that goes on follows the machine through a round
+abbrev pub FollowsRound : Code → Bool → Post → Post → Type 0
+FollowsRound code whole old new =
+    (run : RoundState) → old.halt ≡ None → Follows true [] old run → Follows whole [] new (round code old.limits run)
