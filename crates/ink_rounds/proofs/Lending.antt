@@ -38,30 +38,30 @@ first_place ss = position_or_len is_ready ss
 ready_place : (first seat ran : ℕ) (ss : List Status) (hs : List (Option Process)) (k : ℕ) (p : Process) → k ≡ first_place ss → k < length ss → slice_get hs k ≡ Some (Some p) → ready_from first ss hs ≡ (first + k, p) ∷ ready_from first (set ss k (Out seat ran)) (set hs k None)
 ready_place first seat ran [] hs k p is low there = absurd (omega (arith, low))
 ready_place first seat ran (s ∷ ss) [] k p is low there = absurd (none_some (Some p) there)
-ready_place first seat ran (s ∷ ss) (h ∷ hs) k p is low there = by (is_ready s) refl k is low there
+ready_place first seat ran (s ∷ ss) (h ∷ hs) k p is low there = by (λ j at below found. ready_place (first + 1) seat ran ss hs j p at below found) (is_ready s) refl k is low there
   where
-    by : (b : Bool) → is_ready s ≡ b → (n : ℕ) → n ≡ cond (not b) (1 + first_place ss) 0 → n < suc (length ss) → slice_get (h ∷ hs) n ≡ Some (Some p) → ready_from first (s ∷ ss) (h ∷ hs) ≡ (first + n, p) ∷ ready_from first (set (s ∷ ss) n (Out seat ran)) (set (h ∷ hs) n None)
-    by true e zero at below found =
+    by : ((j : ℕ) → j ≡ first_place ss → j < length ss → slice_get hs j ≡ Some (Some p) → ready_from (first + 1) ss hs ≡ (first + 1 + j, p) ∷ ready_from (first + 1) (set ss j (Out seat ran)) (set hs j None)) → (b : Bool) → is_ready s ≡ b → (n : ℕ) → n ≡ cond (not b) (1 + first_place ss) 0 → n < suc (length ss) → slice_get (h ∷ hs) n ≡ Some (Some p) → ready_from first (s ∷ ss) (h ∷ hs) ≡ (first + n, p) ∷ ready_from first (set (s ∷ ss) n (Out seat ran)) (set (h ∷ hs) n None)
+    by again true e zero at below found =
         let home : h ≡ Some p = some_is h (Some p) found in
         ap (λ (x : Status). gone_if first x h (ready_from (first + 1) ss hs)) (ready_is s e)
         ∙ (ap (λ (x : Option Process). gone_if first Ready x (ready_from (first + 1) ss hs)) home
         ∙ ap (λ (n : ℕ). (n, p) ∷ ready_from (first + 1) ss hs) (omega arith))
-    by true e (suc j) at below found = absurd (omega (arith, at))
-    by false e zero at below found = absurd (omega (arith, at))
-    by false e (suc j) at below found =
+    by again true e (suc j) at below found = absurd (omega (arith, at))
+    by again false e zero at below found = absurd (omega (arith, at))
+    by again false e (suc j) at below found =
         calm_if first s h (ready_from (first + 1) ss hs) e
-        ∙ (ready_place (first + 1) seat ran ss hs j p (omega (arith, at)) (omega (arith, below)) found
+        ∙ (again j (omega (arith, at)) (omega (arith, below)) found
         ∙ (ap (λ (n : ℕ). (n, p) ∷ ready_from (first + 1) (set ss j (Out seat ran)) (set hs j None)) (omega arith)
         ∙ ap (λ (xs : Gone). (first + suc j, p) ∷ xs) (sym (calm_if first s h (ready_from (first + 1) (set ss j (Out seat ran)) (set hs j None)) e))))
 
 ready_none : (first : ℕ) (ss : List Status) (hs : List (Option Process)) → length ss ≤ first_place ss → ready_from first ss hs ≡ []
 ready_none first [] hs past = refl
 ready_none first (s ∷ ss) [] past = refl
-ready_none first (s ∷ ss) (h ∷ hs) past = by (is_ready s) refl past
+ready_none first (s ∷ ss) (h ∷ hs) past = by (λ beyond. ready_none (first + 1) ss hs beyond) (is_ready s) refl past
   where
-    by : (b : Bool) → is_ready s ≡ b → suc (length ss) ≤ cond (not b) (1 + first_place ss) 0 → ready_from first (s ∷ ss) (h ∷ hs) ≡ []
-    by true e beyond = absurd (omega (arith, beyond))
-    by false e beyond = calm_if first s h (ready_from (first + 1) ss hs) e ∙ ready_none (first + 1) ss hs (omega (arith, beyond))
+    by : (length ss ≤ first_place ss → ready_from (first + 1) ss hs ≡ []) → (b : Bool) → is_ready s ≡ b → suc (length ss) ≤ cond (not b) (1 + first_place ss) 0 → ready_from first (s ∷ ss) (h ∷ hs) ≡ []
+    by again true e beyond = absurd (omega (arith, beyond))
+    by again false e beyond = calm_if first s h (ready_from (first + 1) ss hs) e ∙ again (omega (arith, beyond))
 
 -- where the first that is ready stands
 found_at : (ss : List Status) (number : ℕ) → option_map (λ index. index + 1) (position is_ready ss) ≡ Some number → (number ≡ suc (first_place ss)) × (first_place ss < length ss)

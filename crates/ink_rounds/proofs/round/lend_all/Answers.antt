@@ -1,17 +1,17 @@
-use Rattle.std.proofs.Common.{◌++◌, ◌∷◌, [], List, length, sym, ap, ◌∙◌, subst, arith}
+use Rattle.std.proofs.Common.{◌++◌, ◌∷◌, [], List, false, length, refl, sym, ap, ◌∙◌, subst, arith}
 use Rattle.ink_proc.specs.State.{state_of}
 use Rattle.ink_rounds.proofs.Lending.{Lending, gone_pushed, lending_same, lends_all, lends_more, lends_none, lends_some, ready_next}
 use Rattle.ink_rounds.proofs.LentLemmas.{has_more, lent_written, same_has, same_written}
 use Rattle.ink_rounds.proofs.round.lend_all.Goals as goal
-use Rattle.ink_rounds.specs.Lent.{HasLent}
+use Rattle.ink_rounds.specs.Lent.{AreAway, HasLent}
 use Rattle.ink_rounds.specs.Machine.{Gone, LendsAll, gone_of}
 use Rattle.ink_rounds.specs.declared.lent.Lent.{Lent as OneLent}
 use Rattle.ink_run.specs.Sinks.{sink_of}
 
 pub loop-number-init : goal.loop-number-init
 loop-number-init g c = record {
-  lends = λ code stands. record { stands = stands; each = subst (λ (xs : List OneLent). Rattle.ink_rounds.specs.Lent.AreAway code c.args.world.now.post xs) (sym c.requires) tt };
-  all = lends_none c.args.world.now.post c.args.lent.now.items c.requires;
+  lends = λ code stands. record { stands = stands; each = subst (λ (xs : List OneLent). AreAway code c.args.world.now.post xs) (sym c.requires.none) tt };
+  all = lends_none c.args.world.now.post c.args.lent.now.items c.requires.none;
   limits = refl;
   written = λ code first written. written;
 }
@@ -52,9 +52,9 @@ loop-number-preserved g c =
           (has_more code c.in-Some.number (state_of c.in-Ok.proc) c.loop-number.world.post c.check_out.new.self.post c.in-Ok.ensures.lends (c.check_out.ensures.others code) (c.check_out.ensures.stands code has.stands) (c.in-Ok.ensures.lent code has.stands)
           c.of.result c.of.ensures.number (ap state_of c.of.ensures.process) c.loop-number.lent.items has);
       all =
-          subst (λ (gone : Gone). Lending c.loop-number.initial.world.post c.check_out.new.self.post gone)
+          subst (λ (gone : Gone). Lending c.args.world.now.post c.check_out.new.self.post gone)
           (sym (gone_pushed c.push_reserved.new.self.items c.loop-number.lent.items c.of.result c.in-Some.number (state_of c.in-Ok.proc) pushed c.of.ensures.number (ap state_of c.of.ensures.process)))
-          (lends_more c.in-Some.number (state_of c.in-Ok.proc) c.loop-number.world.post c.check_out.new.self.post c.in-Ok.ensures.lends c.loop-number.initial.world.post (gone_of c.loop-number.lent.items) (sym c.in-Some.ensures) c.loop-number.invariant.all);
+          (lends_more c.in-Some.number (state_of c.in-Ok.proc) c.loop-number.world.post c.check_out.new.self.post c.in-Ok.ensures.lends c.args.world.now.post (gone_of c.loop-number.lent.items) (sym c.in-Some.ensures) c.loop-number.invariant.all);
       limits = c.check_out.ensures.limits ∙ c.loop-number.invariant.limits;
       written = λ code first written.
           lent_written code c.in-Some.number (state_of c.in-Ok.proc) c.loop-number.world.post c.check_out.new.self.post c.in-Ok.ensures.lends c.check_out.ensures.limits
