@@ -152,7 +152,7 @@ is_failed (Some (halt.Local process steps)) = inr (λ e. cc)
 
 module _ (code : Code) (old new : Post) (x : Lent) (p : Process) (gone : Gone) (last : ℕ) (others : AreOthers x.number last gone) (run : RoundState) (follows : Follows true ((x.number, p) ∷ gone) old run)
     (low : last ≤ length run.world.processes) (under : last ≤ length run.statuses) where
-  next : RoundState
+  abbrev next : RoundState
   next = checked_in code old.limits x.number (slice_from code old.limits p) run
 
   -- the journal stays

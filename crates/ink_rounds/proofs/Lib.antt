@@ -4,6 +4,7 @@ mod CheckingIn
 mod Following
 mod Growing
 mod HomeLemmas
+mod Idling
 mod LentLemmas
 mod Lending
 mod Rounding

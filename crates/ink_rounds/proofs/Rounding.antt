@@ -121,10 +121,19 @@ module _ (code : Code) (old middle new : Post) (xs ys zs : List Lent) (are_lent 
   round_whole : are_lent ≡ true → round code old.limits run ≡ home_run
   round_whole lent = round_rest ∙ ap (λ (g : Gone). all_checked_in code old.limits g home_run) (lends.all lent)
 
-  pub rounded : (whole : Bool) → FollowsAll code whole (reverse zs) middle new → Follows (whole && are_lent) [] new (round code old.limits run)
+  rounded : (whole : Bool) → FollowsAll code whole (reverse zs) middle new → Follows (whole && are_lent) [] new (round code old.limits run)
   rounded whole home = by whole are_lent refl (brought whole home)
     where
       by : (w a : Bool) → are_lent ≡ a → Follows w [] new home_run → Follows (w && a) [] new (round code old.limits run)
       by false a is back = record { exact = λ all. absurd (cc); begins = on_begins false back }
       by true false is back = record { exact = λ all. absurd (cc); begins = on_begins true back }
       by true true is back = subst (λ (r : RoundState). Follows true [] new r) (sym (round_whole is)) back
+
+  -- where all that went came home so, it is by whether all that were ready went
+  pub rounded_whole : (whole : Bool) → whole ≡ true → FollowsAll code whole (reverse zs) middle new → Follows are_lent [] new (round code old.limits run)
+  rounded_whole whole all home = subst (λ (w : Bool). Follows (w && are_lent) [] new (round code old.limits run)) all (rounded whole home)
+
+  pub rounded_part : (whole : Bool) → whole ≡ false → FollowsAll code whole (reverse zs) middle new → Follows whole [] new (round code old.limits run)
+  rounded_part whole part home =
+      subst (λ (w : Bool). Follows w [] new (round code old.limits run)) (sym part)
+      (subst (λ (w : Bool). Follows (w && are_lent) [] new (round code old.limits run)) part (rounded whole home))
