@@ -1,5 +1,5 @@
 -- The processes that are ready have a number each, and are there.
-use Rattle.std.proofs.Common.{◌≡◌, ◌≢◌, ◌≤◌, ◌<◌, ◌+◌, ℕ, suc, Option, None, Some, List, [], ◌∷◌, ◌++◌, length, refl, arith}
+use Rattle.std.proofs.Common.{◌≢◌, ◌≤◌, ◌<◌, ◌+◌, ℕ, Option, None, Some, List, [], ◌∷◌, ◌++◌, length, arith}
 use Rattle.ink_code.specs.Process.{Process}
 use Rattle.ink_rounds.specs.Machine.{AreApart, AreOthers, Gone, gone_if, ready_from}
 use Rattle.ink_worlds.specs.declared.status.Status.{Status}

@@ -1,11 +1,11 @@
 -- Processes come home one after another, as in the machine.
-use Rattle.std.proofs.Common.{◌≡◌, ℕ, Bool, true, false, List, [], ◌∷◌, ◌++◌, reverse, refl, sym, ap, ◌∙◌, subst}
+use Rattle.std.proofs.Common.{◌≡◌, ℕ, true, false, List, [], ◌∷◌, ◌++◌, reverse, refl, sym, ap, ◌∙◌, subst}
 use Rattle.std.proofs.lemmas.List.{reverse-append}
 use Rattle.ink_code.specs.declared.code.Code.{Code}
 use Rattle.ink_code.specs.Process.{Process}
 use Rattle.ink_code.specs.Rounds.{RoundState, checked_in}
 use Rattle.ink_post.specs.declared.post.Post.{Post}
-use Rattle.ink_rounds.specs.Machine.{AllCameFrom, Awaits, Begins, Follows, FollowsNext, Gone, all_checked_in, slice_from}
+use Rattle.ink_rounds.specs.Machine.{Awaits, Begins, Follows, FollowsNext, Gone, all_checked_in, slice_from}
 use Rattle.ink_rounds.specs.declared.lent.Lent.{Lent}
 use Rattle.ink_rounds.proofs.Following.{awaits_next}
 use Rattle.ink_rounds.proofs.Growing.{all_grow, begins_on}

@@ -1,14 +1,13 @@
 -- A check-in of a kept world is that of the machine.
-use Rattle.std.proofs.Common.{◌≡◌, ◌≢◌, ℕ, ◌+◌, ◌≤◌, Bool, true, false, Option, None, Some, Result, Ok, Err, List, [], ◌∷◌, ◌++◌, length, map, refl, sym, ap, ◌∙◌, subst, arith}
+use Rattle.std.proofs.Common.{◌≡◌, ◌≢◌, ℕ, ◌+◌, ◌≤◌, Bool, true, false, Option, None, Some, Ok, List, [], ◌∷◌, ◌++◌, length, map, refl, sym, ap, ◌∙◌, subst}
 use Rattle.std.specs.Prelude.{nat_le, if◌then◌else◌}
-use Rattle.std.specs.List.{list_any}
 use Rattle.std.proofs.lemmas.List.{map-append, length-map}
 use Rattle.ink_base.specs.declared.limits.Limit.TheVariants as limit
 use Rattle.ink_base.specs.Actions.{Action, SharedState, after_action, as_made, is_enabled}
 use Rattle.ink_base.specs.Actions as action
 use Rattle.ink_base.specs.Ends.{End, EventLimit, LocalLimit}
 use Rattle.ink_base.specs.Limits.{limit_of}
-use Rattle.ink_base.specs.Numbered.{numbered, set_numbered}
+use Rattle.ink_base.specs.Numbered.{set_numbered}
 use Rattle.ink_code.specs.declared.code.Code.{Code}
 use Rattle.ink_code.specs.Machine.{Outcome, Stepped, Went, Wants, Panics, Spent}
 use Rattle.ink_code.specs.Process.{Process}
@@ -17,7 +16,6 @@ use Rattle.ink_code.specs.Rounds as machine
 use Rattle.ink_code.specs.Runs.{after_made, begun, process_after, with_started}
 use Rattle.ink_code.specs.Trees.{Parcel}
 use Rattle.ink_law_runs.specs.CodeMachine.{code_machine}
-use Rattle.ink_law_turns.specs.Machines.{Machine}
 use Rattle.ink_law_turns.proofs.Numbering.{length-set_numbered}
 use Rattle.ink_rounds.specs.Machine.{AreOthers, Gone, IsAs, ended_by, homes_without, status_of, statuses_without}
 use Rattle.ink_rounds.proofs.Stopping.{any_put, woken_calm}
@@ -29,7 +27,7 @@ use Rattle.ink_worlds.specs.State as w
 use Rattle.ink_worlds.specs.declared.halt.Halt.{Halt}
 use Rattle.ink_worlds.specs.declared.halt.Halt.TheVariants as halt
 use Rattle.ink_worlds.specs.declared.status.Status.{Status}
-use Rattle.ink_worlds.specs.declared.status.Status.TheVariants.{Ready, Out, Idle, Held, Stopped}
+use Rattle.ink_worlds.specs.declared.status.Status.TheVariants.{Out}
 
 some_process : Process → Option Process
 some_process p = Some p

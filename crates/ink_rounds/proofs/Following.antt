@@ -1,16 +1,16 @@
 -- A kept world follows the machine through a check-in.
-use Rattle.std.proofs.Common.{◌≡◌, ◌≢◌, ℕ, ◌≤◌, Bool, true, false, Option, None, Some, Result, Ok, Err, List, [], ◌∷◌, ◌++◌, length, le_trans, refl, sym, ap, ◌∙◌, subst, inl, inr, ◌⊎◌}
+use Rattle.std.proofs.Common.{◌≡◌, ◌≢◌, ℕ, ◌≤◌, Bool, true, false, Option, None, Some, List, [], ◌∷◌, ◌++◌, length, le_trans, refl, sym, ap, ◌∙◌, subst, inl, inr, ◌⊎◌}
 use Rattle.ink_base.specs.Actions.{SharedState}
 use Rattle.ink_base.specs.Actions as action
 use Rattle.ink_code.specs.declared.code.Code.{Code}
-use Rattle.ink_code.specs.Machine.{Outcome, Stepped, Went, Wants, Panics, Spent}
+use Rattle.ink_code.specs.Machine.{Outcome, Went, Wants, Panics, Spent}
 use Rattle.ink_code.specs.Process.{Process}
 use Rattle.ink_code.specs.Rounds.{RoundState, checked_in}
 use Rattle.ink_code.specs.Trees.{Parcel}
 use Rattle.ink_law_runs.specs.CodeMachine.{code_machine}
-use Rattle.ink_post.specs.Answers.{ChecksBy, ChecksHome, told_answer, with_line}
+use Rattle.ink_post.specs.Answers.{ChecksBy, told_answer, with_line}
 use Rattle.ink_post.specs.Asks.{told_came}
-use Rattle.ink_post.specs.Worlds.{CodeState, Same, world_of}
+use Rattle.ink_post.specs.Worlds.{CodeState, world_of}
 use Rattle.ink_post.specs.declared.answer.Answer.{Answer}
 use Rattle.ink_post.specs.declared.answer.Answer.TheVariants as a
 use Rattle.ink_post.specs.declared.answer.Came.{Came}
@@ -18,10 +18,10 @@ use Rattle.ink_post.specs.declared.answer.Came.TheVariants as c
 use Rattle.ink_post.specs.declared.post.Post.{Post}
 use Rattle.ink_rounds.specs.Machine.{AllCameFrom, AreOthers, Awaits, Begins, Follows, Gone, IsAs, IsOutcome, MakesNothing, slice_from}
 use Rattle.ink_rounds.specs.declared.lent.Lent.{Lent}
-use Rattle.ink_rounds.proofs.CheckingIn.{came_by, checked_as}
+use Rattle.ink_rounds.proofs.CheckingIn.{checked_as}
 use Rattle.ink_rounds.proofs.Growing.{begins_on, begins_same, check_grows, check_more}
 use Rattle.ink_run.specs.Sinks.{SinkState}
-use Rattle.ink_run.specs.Written.{ChecksOut, Writes, WritesLine, applied_of}
+use Rattle.ink_run.specs.Written.{ChecksOut, Writes, WritesLine}
 use Rattle.ink_run.specs.declared.applied.Applied.{Applied}
 use Rattle.ink_run.specs.declared.applied.Applied.TheVariants as got
 use Rattle.ink_steps.specs.Answers.{action_of}

@@ -1,5 +1,5 @@
 -- A process comes home whose action is never made.
-use Rattle.std.proofs.Common.{◌≡◌, ℕ, Option, None, Some, List, refl, sym, subst}
+use Rattle.std.proofs.Common.{◌≡◌, ℕ, List, refl, sym, subst}
 use Rattle.ink_base.specs.Actions as action
 use Rattle.ink_code.specs.declared.code.Code.{Code}
 use Rattle.ink_code.specs.Process.{Process}

@@ -1,8 +1,8 @@
 -- A round of a kept world is that of the machine.
-use Rattle.std.proofs.Common.{◌≡◌, ◌≤◌, ◌+◌, ℕ, Bool, true, false, Option, None, Some, List, [], ◌∷◌, ◌++◌, length, map, reverse, refl, sym, ap, ◌∙◌, subst, arith}
+use Rattle.std.proofs.Common.{◌≡◌, ◌+◌, ℕ, Bool, true, false, Option, None, Some, List, [], ◌∷◌, length, map, reverse, refl, sym, ap, ◌∙◌, subst, arith}
 use Rattle.std.specs.Prelude.{◌&&◌}
 use Rattle.std.specs.List.{list_any}
-use Rattle.std.proofs.lemmas.List.{append-nil, length-map, reverse-reverse}
+use Rattle.std.proofs.lemmas.List.{length-map, reverse-reverse}
 use Rattle.ink_base.specs.Ends.{End}
 use Rattle.ink_code.specs.declared.code.Code.{Code}
 use Rattle.ink_code.specs.Process.{Process}
@@ -17,8 +17,6 @@ use Rattle.ink_rounds.proofs.Apart.{apart_front, apart_ready}
 use Rattle.ink_rounds.proofs.Growing.{all_append, all_grow, begins_on}
 use Rattle.ink_rounds.proofs.Stopping.{any_without}
 use Rattle.ink_statuses.specs.Readings.{is_stopped}
-use Rattle.ink_worlds.specs.declared.halt.Halt.{Halt}
-use Rattle.ink_worlds.specs.declared.halt.Halt.TheVariants as halt
 use Rattle.ink_worlds.specs.declared.status.Status.{Status}
 
 -- those that made their slices came to what these came to

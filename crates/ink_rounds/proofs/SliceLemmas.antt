@@ -1,9 +1,8 @@
 -- A slice leads a lent process from where it stands to where it comes home.
-use Rattle.std.proofs.Common.{◌≡◌, ◌≤◌, ℕ, Bool, true, false, Result, Ok, Err, List, sym, subst, ◌∙◌}
+use Rattle.std.proofs.Common.{◌≡◌, ◌≤◌, ℕ, true, false, Result, Ok, Err, List, sym, subst, ◌∙◌}
 use Rattle.ink_base.specs.declared.limits.Limit.TheVariants as limit
 use Rattle.ink_base.specs.Limits.{limit_of}
 use Rattle.ink_code.specs.declared.code.Code.{Code}
-use Rattle.ink_code.specs.Machine.{Outcome}
 use Rattle.ink_code.specs.Process.{Process}
 use Rattle.ink_code.specs.Slice.{slice_of}
 use Rattle.ink_interp.specs.Slices.{AnswersSlice}

@@ -1,7 +1,6 @@
 -- Lists of which some places were emptied.
 use Rattle.std.proofs.Common.{◌≡◌, ◌≢◌, ℕ, zero, suc, ◌≤◌, ◌<◌, Bool, true, false, cond, Option, None, Some, List, [], ◌∷◌, ◌++◌, length, map, set, refl, sym, ap, ◌∙◌, subst, inl, inr, arith}
-use Rattle.std.specs.Prelude.{◌||◌, ◌==◌}
-use Rattle.std.specs.List.{list_any}
+use Rattle.std.specs.Prelude.{◌==◌}
 use Rattle.std.specs.Option.{option_map}
 use Rattle.std.proofs.lemmas.Bool.{cases_eq}
 use Rattle.std.proofs.lemmas.List.{map-append, map-set, set-set, set_comm, set-append_left}
@@ -12,10 +11,9 @@ use Rattle.ink_code.specs.Rounds as machine
 use Rattle.ink_code.specs.Trees.{Parcel}
 use Rattle.ink_law_turns.proofs.Numbering.{length-set_numbered, numbered-map, numbered-set_other, numbered-set_found, set_numbered-suc}
 use Rattle.ink_rounds.specs.Machine.{AreOthers, Gone, put_at_each, statuses_without, status_of}
-use Rattle.ink_statuses.specs.Readings.{is_stopped}
 use Rattle.ink_worlds.specs.State.{woken, woken_at, woken_from_get, woken_from_take}
 use Rattle.ink_worlds.specs.declared.status.Status.{Status}
-use Rattle.ink_worlds.specs.declared.status.Status.TheVariants.{Ready, Out, Idle, Held, Stopped}
+use Rattle.ink_worlds.specs.declared.status.Status.TheVariants.{Ready, Out, Held}
 
 module _ {X : Type 0} where
   pub set_twice : (xs : List X) (i : ℕ) (x y : X) → set_numbered (set_numbered xs i x) i y ≡ set_numbered xs i y

@@ -2,5 +2,4 @@ pub mod Faults
 pub mod Homes
 pub mod Lent
 pub mod Machine
-pub mod Runs
 pub mod Stops

@@ -201,11 +201,7 @@ fn bring_home<K: Sink + Drop>(
 }
 
 /// Brings a process home whose action is never made.
-fn give_up<K: Sink + Drop>(
-    code: &Code,
-    world: &mut World<K>,
-    one: Lent,
-) -> Result<(), WrongCode>
+fn give_up<K: Sink + Drop>(code: &Code, world: &mut World<K>, one: Lent) -> Result<(), WrongCode>
     requires stands { Stands code.now world.old.post }
     requires comes { IsHomeward code.now world.old.post one }
     ensures leaves { OnOk result (Leaves code.now one.number world.old.post world.new.post) }

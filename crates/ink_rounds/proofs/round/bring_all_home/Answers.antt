@@ -1,6 +1,6 @@
 use Rattle.std.proofs.Common.{Bool, ℕ, ◌-◌, ap, subst, take, ◌∙◌}
 use Rattle.std.proofs.lemmas.List.{append-nil}
-use Rattle.ink_rounds.proofs.Bringing.{leads_first, leads_last, leads_off, leads_on}
+use Rattle.ink_rounds.proofs.Bringing.{leads_last, leads_off, leads_on}
 use Rattle.ink_rounds.proofs.LentLemmas.{rest_homeward}
 use Rattle.ink_rounds.proofs.round.bring_all_home.Goals as goal
 use Rattle.ink_rounds.specs.Machine.{FollowsNext}
