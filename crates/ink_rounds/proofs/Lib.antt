@@ -1,3 +1,13 @@
+mod Apart
+mod Bringing
+mod CheckingIn
+mod Following
+mod Growing
 mod HomeLemmas
+mod Idling
 mod LentLemmas
+mod Lending
+mod Rounding
 mod SliceLemmas
+mod Stopping
+mod Without

@@ -6,6 +6,7 @@ use Rattle.ink_post.specs.Worlds.{Stands}
 use Rattle.ink_post.specs.declared.answer.Came.TheVariants as c
 use Rattle.ink_post.specs.declared.post.Post.{Post}
 use Rattle.ink_proc.specs.State.{state_of}
+use Rattle.ink_rounds.specs.Machine.{CameFrom}
 use Rattle.ink_rounds.specs.declared.lent.Lent.{Lent}
 
 -- it is lent under the seat of its own number, and stands as the journal leaves it
@@ -31,10 +32,11 @@ abbrev pub AreHomeward : Code → Post → List Lent → Type 0
 AreHomeward code post [] = Unit {0}
 AreHomeward code post (x ∷ lent) = IsHomeward code post x × IsApart x.number lent × AreHomeward code post lent
 
--- a lent process made its slice: from wherever it stood, it comes home from there
+-- a lent process made its slice: from wherever it stood, it comes home from there, with what the slice came to
 pub record IsSliced (code : Code) (limits : List ℕ) (old new : Lent) : Type 0 where
   pub number : new.number ≡ old.number
   pub comes : (journal : List ℕ) → ComesOn code limits journal old.number c.Went (state_of old.proc) → ComesOn code limits journal old.number new.came (state_of new.proc)
+  pub from : CameFrom code limits (state_of old.proc) new
 
 -- each of them did
 abbrev pub AreSliced : Code → List ℕ → List Lent → List Lent → Type 0

@@ -1,4 +1,5 @@
 pub mod Faults
 pub mod Homes
 pub mod Lent
+pub mod Machine
 pub mod Stops

@@ -1,12 +1,12 @@
 //! A round.
-ghost use Rattle.std.specs.Prelude.{◌≡◌, ◌≢◌, ◌<◌, ℕ, [], length, reverse, slice_index_or, OnOk};
+ghost use Rattle.std.specs.Prelude.{◌≡◌, ◌≢◌, ◌<◌, ℕ, [], IfOk, OnOk, length, reverse, slice_index_or};
 ghost use Rattle.ink_code.specs.declared.code.Code.{Code as OneCode};
 ghost use Rattle.ink_post.specs.Asks.{IsComing};
 ghost use Rattle.ink_post.specs.Worlds.{Stands};
-ghost use Rattle.ink_post.specs.declared.answer.Came.TheVariants as came;
 ghost use Rattle.ink_proc.specs.State.{state_of};
 ghost use Rattle.ink_rounds.specs.Homes.{Leaves, WritesOn};
 ghost use Rattle.ink_rounds.specs.Lent.{AreHomeward, AreSliced, HasLent, IsHomeward, IsSliced};
+ghost use Rattle.ink_rounds.specs.Machine.{FollowsAll, FollowsNext, FollowsRound, LendsAll, MakesNothing, gone_of, idle_came};
 ghost use Rattle.ink_rounds.specs.declared.lent.Lent.{Lent as OneLent};
 ghost use Rattle.ink_run.specs.Sinks.{sink_of};
 ghost use Rattle.ink_run.specs.declared.applied.Applied.TheVariants as answer;
@@ -28,23 +28,21 @@ const THREAD_STEPS: u64 = 50_000;
 #[derive(Clone, Copy)]
 pub(crate) struct WrongCode(pub(crate) u32);
 
-/// Lends the processes that are ready, by number, each under the seat of its own number. `false` without memory: then some
-/// of them aren't lent.
+/// Lends the processes that are ready, by number, each under the seat of its own number. `false` where some of them aren't
+/// lent, for want of memory.
 fn lend_all<K: Sink + Drop>(world: &mut World<K>, lent: &mut Vec<Lent>) -> bool
     requires none { lent.old.items ≡ [] }
     ensures lends { (code : OneCode) → Stands code world.old.post → HasLent code world.new.post lent.new.items }
+    ensures all { LendsAll result world.old.post world.new.post (gone_of lent.new.items) }
     ensures limits { world.new.post.limits ≡ world.old.post.limits }
     ensures written { (code : OneCode) → WritesOn code world.old.post world.new.post (sink_of K.contents K.faults world.old.sink) (sink_of K.contents K.faults world.new.sink) }
 {
-    for _ in 0..world.count() {
+    while let Some(number) = world.first_ready() {
         if lent.reserve(1).is_err() {
             return false;
         }
-        let Some(number) = world.first_ready() else {
-            return true;
-        };
         match world.check_out(number, number) {
-            Err(_) => return true,
+            Err(_) => return false,
             Ok(proc) => lent.push_reserved(Lent::of(number, proc)),
         }
     }
@@ -126,20 +124,37 @@ fn right(number: u32, applied: Applied) -> Result<(), WrongCode>
     }
 }
 
-/// Brings a process home for whose action there is no memory: that is never made.
-fn give_up<K: Sink + Drop>(
+/// With what a process comes home whose action is never made. That its code is wrong is told all the same.
+fn idle(came: Came) -> Came
+    ensures { result ≡ idle_came came }
+{
+    match came {
+        Came::Wrong => Came::Wrong,
+        Came::Went => Came::GivesUp,
+        Came::GivesUp => Came::GivesUp,
+        Came::Wants(_) => Came::GivesUp,
+        Came::Panics(_) => Came::GivesUp,
+        Came::Spent(_) => Came::GivesUp,
+    }
+}
+
+/// Brings a process home with what makes no action.
+fn come_idle<K: Sink + Drop>(
     code: &Code,
     world: &mut World<K>,
     number: u32,
     proc: Proc,
+    came: Came,
 ) -> Result<(), WrongCode>
     requires stands { Stands code.now world.old.post }
-    requires comes { IsComing code.now world.old.post number number came.GivesUp (state_of proc) }
+    requires comes { IsComing code.now world.old.post number number came (state_of proc) }
+    requires idle { MakesNothing came }
     ensures leaves { OnOk result (Leaves code.now number world.old.post world.new.post) }
     ensures written { OnOk result (WritesOn code.now world.old.post world.new.post (sink_of K.contents K.faults world.old.sink) (sink_of K.contents K.faults world.new.sink)) }
     ensures limits { OnOk result (world.new.post.limits ≡ world.old.post.limits) }
+    ensures journal { OnOk result (world.new.post.journal.entries ≡ world.old.post.journal.entries) }
 {
-    match world.check_in(code, number, number, proc, Came::GivesUp) {
+    match world.check_in(code, number, number, proc, came) {
         Ok(applied) => {
             match right(number, applied) {
                 Err(why) => Err(why),
@@ -161,6 +176,7 @@ fn bring_home<K: Sink + Drop>(
     ensures leaves { OnOk result (Leaves code.now one.number world.old.post world.new.post) }
     ensures written { OnOk result (WritesOn code.now world.old.post world.new.post (sink_of K.contents K.faults world.old.sink) (sink_of K.contents K.faults world.new.sink)) }
     ensures limits { OnOk result (world.new.post.limits ≡ world.old.post.limits) }
+    ensures follows { IfOk result (λ whole. FollowsNext code.now whole one world.old.post world.new.post) }
 {
     let Lent {
         number,
@@ -176,7 +192,7 @@ fn bring_home<K: Sink + Drop>(
             }
         }
         Err(CheckFault { proc, came: _ }) => {
-            match give_up(code, world, number, proc) {
+            match come_idle(code, world, number, proc, Came::GivesUp) {
                 Err(why) => Err(why),
                 Ok(()) => Ok(false),
             }
@@ -184,8 +200,48 @@ fn bring_home<K: Sink + Drop>(
     }
 }
 
-/// Brings processes home, the last of them first. `false` where there was no memory for what one of them came to. At a
-/// process whose code is wrong it ends, and those behind it aren't home.
+/// Brings a process home whose action is never made.
+fn give_up<K: Sink + Drop>(code: &Code, world: &mut World<K>, one: Lent) -> Result<(), WrongCode>
+    requires stands { Stands code.now world.old.post }
+    requires comes { IsHomeward code.now world.old.post one }
+    ensures leaves { OnOk result (Leaves code.now one.number world.old.post world.new.post) }
+    ensures written { OnOk result (WritesOn code.now world.old.post world.new.post (sink_of K.contents K.faults world.old.sink) (sink_of K.contents K.faults world.new.sink)) }
+    ensures limits { OnOk result (world.new.post.limits ≡ world.old.post.limits) }
+    ensures journal { OnOk result (world.new.post.journal.entries ≡ world.old.post.journal.entries) }
+{
+    let Lent {
+        number,
+        proc,
+        came,
+        is_whole: _,
+    } = one;
+    come_idle(code, world, number, proc, idle(came))
+}
+
+/// Brings processes home whose actions are never made, the last of them first.
+fn give_all_up<K: Sink + Drop>(
+    code: &Code,
+    world: &mut World<K>,
+    mut lent: Vec<Lent>,
+) -> Result<(), WrongCode>
+    requires stands { Stands code.now world.old.post }
+    requires comes { AreHomeward code.now world.old.post (reverse lent.items) }
+    ensures stands { OnOk result (Stands code.now world.new.post) }
+    ensures written { OnOk result (WritesOn code.now world.old.post world.new.post (sink_of K.contents K.faults world.old.sink) (sink_of K.contents K.faults world.new.sink)) }
+    ensures limits { OnOk result (world.new.post.limits ≡ world.old.post.limits) }
+    ensures journal { OnOk result (world.new.post.journal.entries ≡ world.old.post.journal.entries) }
+{
+    while let Some(one) = lent.pop() {
+        match give_up(code, world, one) {
+            Err(why) => return Err(why),
+            Ok(()) => {}
+        }
+    }
+    Ok(())
+}
+
+/// Brings processes home, the last of them first. `false` where there was no memory for what one of them came to: what
+/// those behind it came to is never done. At a process whose code is wrong it ends, and those behind it aren't home.
 fn bring_all_home<K: Sink + Drop>(
     code: &Code,
     world: &mut World<K>,
@@ -196,19 +252,26 @@ fn bring_all_home<K: Sink + Drop>(
     ensures stands { OnOk result (Stands code.now world.new.post) }
     ensures written { OnOk result (WritesOn code.now world.old.post world.new.post (sink_of K.contents K.faults world.old.sink) (sink_of K.contents K.faults world.new.sink)) }
     ensures limits { OnOk result (world.new.post.limits ≡ world.old.post.limits) }
+    ensures follows { IfOk result (λ whole. FollowsAll code.now whole (reverse lent.items) world.old.post world.new.post) }
 {
-    let mut is_whole = true;
     while let Some(one) = lent.pop() {
         match bring_home(code, world, one) {
             Err(why) => return Err(why),
-            Ok(was_whole) => is_whole = is_whole && was_whole,
+            Ok(true) => {}
+            Ok(false) => {
+                match give_all_up(code, world, lent) {
+                    Err(why) => return Err(why),
+                    Ok(()) => return Ok(false),
+                }
+            }
         }
     }
-    Ok(is_whole)
+    Ok(true)
 }
 
-/// Makes a round. `false` without memory: all processes are home, and those for whose actions there was none never make
-/// them. At a process whose code is wrong the round ends, and those behind it aren't home.
+/// Makes a round. `false` without memory: all processes are home, and of those whose actions there was none for, and of those
+/// behind the first of these, none is ever made. At a process whose code is wrong the round ends, and those behind it
+/// aren't home.
 pub(crate) fn make_round<R: Threads + Sync, K: Sink + Drop>(
     rt: &R,
     alloc: Global,
@@ -221,6 +284,7 @@ pub(crate) fn make_round<R: Threads + Sync, K: Sink + Drop>(
     ensures stands { OnOk result (Stands code.now world.new.post) }
     ensures written { OnOk result (WritesOn code.now world.old.post world.new.post (sink_of K.contents K.faults world.old.sink) (sink_of K.contents K.faults world.new.sink)) }
     ensures limits { OnOk result (world.new.post.limits ≡ world.old.post.limits) }
+    ensures follows { IfOk result (λ whole. FollowsRound code.now whole world.old.post world.new.post) }
 {
     let limits = *world.limits();
     let mut lent = Vec::new(alloc);

@@ -33,7 +33,8 @@ pub struct Ran<K: Drop> {
 /// Why a run in rounds came to no stop.
 #[derive(Drop)]
 pub enum RoundFault<K: Drop> {
-    /// All processes are at home, and one for whose action there was no memory never makes it.
+    /// All processes are at home. One for whose action there was no memory never makes it, and no process behind it in that
+    /// round makes its own.
     OutOfMemory(World<K>),
 }
 
