@@ -7,7 +7,7 @@ ghost use Rattle.ink_worker.specs.Turns.{Stays};
 
 use crate::working::{Worked, work};
 use ink_base::Limits;
-use ink_deck::deck::{Deck, DeckSeat};
+use ink_deck::{Deck, DeckSeat};
 use ink_devices::Gate;
 use ink_lease::{Pass, Shared};
 use ink_leasing::Workable;
@@ -54,6 +54,8 @@ pub fn crew<S, R: Threads + Wait + Sync, G: Gate + Sync>(
 ) -> Worked<S>
 where
     S: Workable + Send,
+    S::Work: Send,
+    S::Fixed: Send,
     S::Code: Sync,
     requires own { pass.seat.table_id ≡ shared.now.table.shared.table_id }
     requires idle { IsIdle pass.seat × ((view pass.seat).lease ≡ []) }
@@ -75,11 +77,11 @@ where
             let (a, b) = join(
                 rt,
                 move || -> Worked<S>
-                    requires { IsSync R.row × IsSend S.row × IsSync S.Code.row × IsSync G.row × (first.seat.table_id ≡ shared.now.table.shared.table_id) × IsIdle first.seat × ((view first.seat).lease ≡ []) × ((f : S.Fixed) × ((view first.seat).fixed ≡ Some f) × S.fits f code.now limits.now) × IsSegPassOf deck.now.common seat.own.entry }
+                    requires { (first.seat.table_id ≡ shared.now.table.shared.table_id) × IsIdle first.seat × ((view first.seat).lease ≡ []) × ((f : S.Fixed) × ((view first.seat).fixed ≡ Some f) × S.fits f code.now limits.now) × IsSegPassOf deck.now.common seat.own.entry }
                     ensures { IsSameSeat first.seat result.pass.seat × IsIdle result.pass.seat × Stays (view first.seat) (view result.pass.seat) × ((view result.pass.seat).lease ≡ []) × (result.memory ≡ false → (view result.pass.seat).rest ≡ true) }
                 { alone(rt, alloc, shared, code, limits, first, deck, seat, gate) },
                 move || -> Worked<S>
-                    requires { IsSync R.row × IsSend S.row × IsSync S.Code.row × IsSync G.row × (others.seat.table_id ≡ shared.now.table.shared.table_id) × IsIdle others.seat × ((view others.seat).lease ≡ []) × ((f : S.Fixed) × ((view others.seat).fixed ≡ Some f) × S.fits f code.now limits.now) × All (λ s. IsSegPassOf deck.now.common s.own.entry) seats.items × ((view others.seat).to < (view others.seat).from + vec_len seats) }
+                    requires { IsSync R.row × IsSend S.row × IsSend S.Work.row × IsSend S.Fixed.row × IsSync S.Code.row × IsSync G.row × (others.seat.table_id ≡ shared.now.table.shared.table_id) × IsIdle others.seat × ((view others.seat).lease ≡ []) × ((f : S.Fixed) × ((view others.seat).fixed ≡ Some f) × S.fits f code.now limits.now) × All (λ s. IsSegPassOf deck.now.common s.own.entry) seats.items × ((view others.seat).to < (view others.seat).from + vec_len seats) }
                     ensures { IsSameSeat others.seat result.pass.seat × IsIdle result.pass.seat × Stays (view others.seat) (view result.pass.seat) × ((view result.pass.seat).lease ≡ []) }
                 { crew(rt, alloc, shared, code, limits, others, deck, seats, gate) },
             );

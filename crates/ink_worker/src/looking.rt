@@ -2,7 +2,7 @@
 ghost use Rattle.crossbeam_queue.specs.SegTies.{IsSegPassOf};
 
 use crate::held::Plan;
-use ink_deck::deck::{Deck, DeckSeat};
+use ink_deck::{Deck, DeckSeat};
 use std::sync::Wait;
 use std::thread;
 

@@ -5,7 +5,7 @@ ghost use Rattle.ink_worker.specs.Hands.{Begins};
 use crate::crews::crew;
 use crate::working::Worked;
 use ink_base::Limits;
-use ink_deck::deck::Deck;
+use ink_deck::Deck;
 use ink_devices::Gate;
 use ink_lease::Shared;
 use ink_leasing::Workable;
@@ -26,6 +26,8 @@ pub fn run_shared<S, R: Threads + Wait + Sync, G: Gate + Sync>(
 ) -> (S, bool)
 where
     S: Workable + Send,
+    S::Work: Send,
+    S::Fixed: Send,
     S::Code: Sync,
     requires workers { 1 ≤ workers }
     requires no_lease { (k : ℕ) → S.lease state k ≡ [] }

@@ -10,7 +10,7 @@ use crate::slices::run_all;
 use crate::tending::After;
 use crate::turns::take_turn;
 use ink_base::Limits;
-use ink_deck::deck::{Deck, DeckSeat};
+use ink_deck::{Deck, DeckSeat};
 use ink_devices::Gate;
 use ink_lease::{Pass, Shared};
 use ink_leasing::{Leasable, Workable};
