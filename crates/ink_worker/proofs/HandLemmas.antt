@@ -5,11 +5,14 @@ use Rattle.ink_leasing.specs.Leases.{Lease, Has, Named, Spares, Without, OneMore
 use Rattle.ink_worker.specs.Hands.{AreRun, Carries, GoesOn, count_of}
 use Rattle.ink_worker.specs.declared.held.Held.{Held}
 
--- equal numbers count one, and others none
-counts_one : (p q : ℕ) → p ≡ q → cond (eqb p q) 1 0 ≡ 1
+-- one where two numbers are equal, and else none
+abbrev counted : ℕ → ℕ → ℕ
+counted p q = cond (eqb p q) 1 0
+
+counts_one : (p q : ℕ) → p ≡ q → counted p q ≡ 1
 counts_one p q same = cond-true (eqb p q) 1 0 (eq-eqb p q same)
 
-counts_none : (p q : ℕ) → (p ≡ q → ⊥) → cond (eqb p q) 1 0 ≡ 0
+counts_none : (p q : ℕ) → (p ≡ q → ⊥) → counted p q ≡ 0
 counts_none p q other = cond-false (eqb p q) 1 0 (ne_eqb p q other)
 
 pub times_append : (p : ℕ) (xs ys : Lease) → times p (xs ++ ys) ≡ times p xs + times p ys

@@ -1,4 +1,4 @@
-use Rattle.std.proofs.Common.{List, ℕ}
+use Rattle.std.proofs.Common.{◌≡◌, List, [], ℕ, rules}
 use Rattle.ink_worker.proofs.HomeLemmas.{all_home, last_comes, last_is_leased, one_less}
 use Rattle.ink_worker.proofs.tending.come_home.Goals as goal
 
@@ -31,4 +31,7 @@ loop-held-preserved g c =
     c.home_one.ensures.stands c.home_one.ensures.journal c.home_one.ensures.others c.home_one.ensures.lease
 
 pub returns-clause-leases : goal.returns-clause-leases
-returns-clause-leases g c = ?
+returns-clause-leases g c =
+    let none : c.loop-held.hand.items ≡ [] = search rules in
+    all_home g.S.Leasable.lease g.S.Leasable.journal g.S.Leasable.stands_for g.S.Workable.is_run g.S.Leasable.apart g.met.S.Workable.stays (λ f (limits : List ℕ). g.S.Workable.fits f c.args.code.now limits) c.args.seat c.args.state.now c.args.hand.now.items
+    c.loop-held.state c.loop-held.hand.items none c.loop-held.invariant c.requires.hand
