@@ -46,17 +46,11 @@ module _ {S F W : Type 0} (lease : S → ℕ → Lease) (journal : S → List �
             carries.run;
         }
 
-    -- so what may come home at the journal seen last may at the turn
-    pub begun_at : (fits : F → List ℕ → Type 0) (seat : ℕ) (v : View S F) (x : S) (hand : List (Held W)) → seat ≡ v.from → Took lease journal stands_for v x
-        → ((f : F) × (limits : List ℕ) × (v.fixed ≡ Some f) × fits f limits × Carries v.lease (is_run f v.seen) hand)
-        → (f : F) × (limits : List ℕ) × stands_for x f × fits f limits × Carries (lease x seat) (is_run f (journal x)) hand
-    begun_at fits seat v x hand here took (f, limits, fixed, fit, carries) = (
-      f,
-      limits,
-      subst (λ (o : Option F). IsSomeAnd o (stands_for x)) fixed took.stands_for,
-      fit,
-      subst (λ (k : ℕ). Carries (lease x k) (is_run f (journal x)) hand) (sym here) (at_turn f v x hand fixed took carries),
-    )
+    pub stands_then : (f : F) (v : View S F) (x : S) → v.fixed ≡ Some f → Took lease journal stands_for v x → stands_for x f
+    stands_then f v x fixed took = subst (λ (o : Option F). IsSomeAnd o (stands_for x)) fixed took.stands_for
+
+    pub carries_then : (f : F) (seat : ℕ) (v : View S F) (x : S) (hand : List (Held W)) → seat ≡ v.from → v.fixed ≡ Some f → Took lease journal stands_for v x → Carries v.lease (is_run f v.seen) hand → Carries (lease x seat) (is_run f (journal x)) hand
+    carries_then f seat v x hand here fixed took carries = subst (λ (k : ℕ). Carries (lease x k) (is_run f (journal x)) hand) (sym here) (at_turn f v x hand fixed took carries)
 
     -- what holds while the processes in hand come home one by one
     module _ (fits : F → List ℕ → Type 0) (seat : ℕ) (first : S) (all : List (Held W)) where
