@@ -1,5 +1,5 @@
 -- What a hand and its leases keep when a process comes home or is taken out.
-use Rattle.std.proofs.Common.{◌≡◌, ◌≢◌, ◌⊎◌, ℕ, ◌+◌, ◌<◌, ◌≤◌, cond, eqb, List, [], ◌∷◌, ◌++◌, true, false, sym, refl, ap, subst, ◌∙◌, inl, inr, ⊎_elim, arith, zero, suc, append_assoc, length, get_or, set}
+use Rattle.std.proofs.Common.{◌≡◌, ◌≢◌, ℕ, ◌+◌, ◌<◌, ◌≤◌, cond, eqb, List, [], ◌∷◌, ◌++◌, sym, refl, ap, subst, ◌∙◌, inl, inr, ⊎_elim, arith, zero, suc, append_assoc, length, get_or, set}
 use Rattle.std.proofs.lemmas.Bool.{eq-eqb, ne_eqb, cases_eq, cond-true, cond-false}
 use Rattle.ink_leasing.specs.Leases.{Lease, Has, Named, Spares, Without, OneMore, Gains, Loses, times}
 use Rattle.ink_worker.specs.Hands.{AreRun, Carries, GoesOn, count_of}
@@ -105,13 +105,13 @@ module _ {W : Type 0} where
   came_home old new is_run is_run' hand last carries once loses over = record {
     same = λ p. let all = carries.same p in let parts = count_append p hand (last ∷ []) in let less = times_gained last.process p new old loses in omega arith;
     run = run_over is_run is_run' hand
-      (λ p w some. over p w (λ (same : p ≡ last.process).
+        (λ p w some. over p w (λ (same : p ≡ last.process).
         let all = carries.same last.process in
         let parts = count_append last.process hand (last ∷ []) in
         let one = counts_one last.process last.process refl in
         let some' : 0 < count_of last.process hand = subst (λ (q : ℕ). 0 < count_of q hand) same some in
         omega arith))
-      (run_front is_run hand (last ∷ []) carries.run);
+        (run_front is_run hand (last ∷ []) carries.run);
   }
 
   -- the last of a hand is leased

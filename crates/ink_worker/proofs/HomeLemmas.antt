@@ -1,10 +1,10 @@
 -- What a worker's hand keeps at a turn, over any state whose processes can be leased.
-use Rattle.std.proofs.Common.{◌≡◌, ◌≢◌, ℕ, ◌+◌, ◌<◌, ◌≤◌, List, [], ◌∷◌, ◌++◌, Option, Some, sym, refl, ap, subst, ◌∙◌, ⊎_elim, arith, append-nil, IsSomeAnd}
+use Rattle.std.proofs.Common.{◌≡◌, ◌≢◌, ℕ, ◌≤◌, List, [], ◌∷◌, ◌++◌, Option, Some, sym, ap, subst, ◌∙◌, ⊎_elim, arith, append-nil, IsSomeAnd}
 use Rattle.ink_leasing.specs.Leases.{AreApart, Lease, Has, OneMore, Loses, Without, times}
 use Rattle.ink_lease.specs.Rule.{Took}
 use Rattle.ink_lease.specs.declared.view.View.{View}
 use Rattle.ink_worker.proofs.HandLemmas.{came_home, empty_hand, goes_on, has_of_times, last_leased, last_run, run_over, spared, times_gained, times_of_has}
-use Rattle.ink_worker.specs.Hands.{AreRun, Carries, GoesOn, count_of}
+use Rattle.ink_worker.specs.Hands.{Carries, GoesOn}
 use Rattle.ink_worker.specs.declared.held.Held.{Held}
 
 module _ {S F W : Type 0} (lease : S → ℕ → Lease) (journal : S → List ℕ) (stands_for : S → F → Type 0) (is_run : F → List ℕ → ℕ → W → Type 0) where
@@ -20,7 +20,7 @@ module _ {S F W : Type 0} (lease : S → ℕ → Lease) (journal : S → List �
     pub others : (k : ℕ) → k ≢ seat → lease state k ≡ lease first k
     pub journal_on : GoesOn (lease first seat) (journal first) (journal state)
     pub stands : (f : F) (limits : List ℕ) → stands_for first f → fits f limits → Carries (lease first seat) (is_run f (journal first)) all
-      → stands_for state f × Carries (lease state seat) (is_run f (journal state)) hand
+        → stands_for state f × Carries (lease state seat) (is_run f (journal state)) hand
 
   module _ (apart : Apart) (stays : StaysRun) where
     -- an event of another leaves a process in hand as it is
@@ -42,8 +42,8 @@ module _ {S F W : Type 0} (lease : S → ℕ → Lease) (journal : S → List �
         let stands : stands_for x f = subst (λ (o : Option F). IsSomeAnd o (stands_for x)) fixed took.stands_for in record {
           same = λ p. carries.same p ∙ ap (times p) (sym took.leased);
           run = run_over (is_run f v.seen) (is_run f (journal x)) hand
-            (λ p w some run. let same = carries.same p in stays f x v.seen took.since.0 p w stands took.since.1 (spared p v.lease took.since.0 (has_of_times p v.lease (omega arith)) took.since.2) run)
-            carries.run;
+              (λ p w some run. let same = carries.same p in stays f x v.seen took.since.0 p w stands took.since.1 (spared p v.lease took.since.0 (has_of_times p v.lease (omega arith)) took.since.2) run)
+              carries.run;
         }
 
     pub stands_then : (f : F) (v : View S F) (x : S) → v.fixed ≡ Some f → Took lease journal stands_for v x → stands_for x f
@@ -84,14 +84,14 @@ module _ {S F W : Type 0} (lease : S → ℕ → Lease) (journal : S → List �
         fewer = λ p. let less = times_gained last.process p (lease new seat) (lease old seat) loses in let before = homing.fewer p in omega arith;
         others = λ k other. others k other ∙ homing.others k other;
         journal_on =
-          let some = times_of_has last.process (lease old seat) (last_is_leased old hand whole last is homing begun) in
-          let before = homing.fewer last.process in
-          goes_on (lease first seat) (journal first) (journal old) (journal new) last.process homing.journal_on (has_of_times last.process (lease first seat) (omega arith)) one;
+            let some = times_of_has last.process (lease old seat) (last_is_leased old hand whole last is homing begun) in
+            let before = homing.fewer last.process in
+            goes_on (lease first seat) (journal first) (journal old) (journal new) last.process homing.journal_on (has_of_times last.process (lease first seat) (omega arith)) one;
         stands = λ f limits stood fit carries.
-          let now = homing.stands f limits stood fit carries in
-          let whole' : Carries (lease old seat) (is_run f (journal old)) (hand ++ last ∷ []) = subst (λ (xs : List (Held W)). Carries (lease old seat) (is_run f (journal old)) xs) is now.1 in
-          let stands' = stands f limits now.0 fit (last_run (lease old seat) (is_run f (journal old)) hand last whole') in
-          (stands', one_home f old new seat hand last now.0 stands' one loses whole');
+            let now = homing.stands f limits stood fit carries in
+            let whole' : Carries (lease old seat) (is_run f (journal old)) (hand ++ last ∷ []) = subst (λ (xs : List (Held W)). Carries (lease old seat) (is_run f (journal old)) xs) is now.1 in
+            let stands' = stands f limits now.0 fit (last_run (lease old seat) (is_run f (journal old)) hand last whole') in
+            (stands', one_home f old new seat hand last now.0 stands' one loses whole');
       }
 
       -- once nothing is in hand, nothing is leased

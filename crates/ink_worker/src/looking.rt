@@ -45,7 +45,13 @@ pub(crate) fn wish<R: Wait>(rt: &R, deck: &Deck, seat: &mut DeckSeat, plan: &mut
 
 /// Looks at the decks so often before the turn is asked for again, so that a worker with nothing to do leaves the turn to the
 /// others.
-pub(crate) fn await_one<R: Wait>(rt: &R, deck: &Deck, seat: &mut DeckSeat, plan: &mut Plan, looks: u32)
+pub(crate) fn await_one<R: Wait>(
+    rt: &R,
+    deck: &Deck,
+    seat: &mut DeckSeat,
+    plan: &mut Plan,
+    looks: u32,
+)
     requires { IsSegPassOf deck.now.common seat.old.own.entry }
     ensures { IsSegPassOf deck.now.common seat.new.own.entry }
 {

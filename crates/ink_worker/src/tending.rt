@@ -19,12 +19,7 @@ pub(crate) enum After {
 }
 
 /// A process comes home.
-fn home_one<S: Workable>(
-    state: &mut S,
-    code: &S::Code,
-    seat: u32,
-    held: Held<S::Work>,
-) -> Home
+fn home_one<S: Workable>(state: &mut S, code: &S::Code, seat: u32, held: Held<S::Work>) -> Home
     requires leased { Has held.process (S.lease state.old seat) }
     requires run { (f : S.Fixed) × (limits : List ℕ) × S.stands_for state.old f × S.fits f code.now limits × S.is_run f (S.journal state.old) held.process held.work }
     ensures journal { OneMore held.process (S.journal state.old) (S.journal state.new) }

@@ -26,6 +26,7 @@ pub struct Worked<S: Leasable> {
 
 /// So often a worker with nothing to do looks at the decks at first, and at most.
 const LOOKS: u32 = 64;
+
 const MOST_LOOKS: u32 = 1_024;
 
 /// Takes processes out, runs them and brings them home, until the state is at rest or there is no memory.
@@ -66,7 +67,10 @@ pub fn work<S: Workable, R: Wait, G: Gate>(
         (pass, after) = take_turn(rt, shared, code, pass, &mut hand, &mut plan);
         tell(rt, deck, seat, &mut plan);
         match after {
-            After::Rest => return Worked { pass, memory: false },
+            After::Rest => return Worked {
+                pass,
+                memory: false,
+            },
             After::NoMemory => return Worked { pass, memory: true },
             After::GoesOn => {}
         }

@@ -12,7 +12,7 @@ tend-after-requires g c =
         stands_then g.S.Leasable.lease g.S.Leasable.journal g.S.Leasable.stands_for g.S.Workable.is_run g.S.Leasable.apart g.met.S.Workable.stays known.0 (view c.args.pass.seat) c.turn-state.result.0 known.2 c.turn-state.ensures.took,
         known.3,
         carries_then g.S.Leasable.lease g.S.Leasable.journal g.S.Leasable.stands_for g.S.Workable.is_run g.S.Leasable.apart g.met.S.Workable.stays known.0 c.first-seat.result (view c.args.pass.seat) c.turn-state.result.0 c.args.hand.now.items
-        c.first-seat.ensures known.2 c.turn-state.ensures.took known.4,
+            c.first-seat.ensures known.2 c.turn-state.ensures.took known.4,
       );
     }
 
@@ -22,12 +22,12 @@ give-requires-clause-owes g c =
       c.turn-state.result.0,
       c.turn-state.ensures.won.1,
       owed g.S.Leasable.lease g.S.Leasable.journal g.S.Leasable.stands_for c.first-seat.result known.0 (view c.args.pass.seat) (view c.turn-state.result.1.seat) c.turn-state.result.0 c.tend-after.new.state (view c.turn-state.result.1.seat).lost
-      c.first-seat.ensures c.turn-state.ensures.view known.2 c.turn-state.ensures.took
-      (c.tend-after.ensures.stands known.0 known.1
-        (stands_then g.S.Leasable.lease g.S.Leasable.journal g.S.Leasable.stands_for g.S.Workable.is_run g.S.Leasable.apart g.met.S.Workable.stays known.0 (view c.args.pass.seat) c.turn-state.result.0 known.2 c.turn-state.ensures.took) known.3
-        (carries_then g.S.Leasable.lease g.S.Leasable.journal g.S.Leasable.stands_for g.S.Workable.is_run g.S.Leasable.apart g.met.S.Workable.stays known.0 c.first-seat.result (view c.args.pass.seat) c.turn-state.result.0 c.args.hand.now.items
+          c.first-seat.ensures c.turn-state.ensures.view known.2 c.turn-state.ensures.took
+          (c.tend-after.ensures.stands known.0 known.1
+          (stands_then g.S.Leasable.lease g.S.Leasable.journal g.S.Leasable.stands_for g.S.Workable.is_run g.S.Leasable.apart g.met.S.Workable.stays known.0 (view c.args.pass.seat) c.turn-state.result.0 known.2 c.turn-state.ensures.took) known.3
+          (carries_then g.S.Leasable.lease g.S.Leasable.journal g.S.Leasable.stands_for g.S.Workable.is_run g.S.Leasable.apart g.met.S.Workable.stays known.0 c.first-seat.result (view c.args.pass.seat) c.turn-state.result.0 c.args.hand.now.items
           c.first-seat.ensures known.2 c.turn-state.ensures.took known.4))
-      c.tend-after.ensures.others c.tend-after.ensures.journal,
+          c.tend-after.ensures.others c.tend-after.ensures.journal,
     )
 
 pub returns-clause-stays : goal.returns-clause-stays
@@ -42,6 +42,6 @@ returns-clause-hand g c = λ f limits fixed fit carries.
     c.first-seat.ensures
     (after_give g.S.Leasable.lease g.S.Leasable.journal g.S.Leasable.stands_for g.S.Leasable.at_rest (view c.args.pass.seat) (view c.turn-state.result.1.seat) (view c.give.result.seat) c.turn-state.result.0 c.tend-after.new.state (view c.turn-state.result.1.seat).lost c.turn-state.ensures.view c.give.ensures.view)
     (c.tend-after.ensures.hand f limits
-      (stands_then g.S.Leasable.lease g.S.Leasable.journal g.S.Leasable.stands_for g.S.Workable.is_run g.S.Leasable.apart g.met.S.Workable.stays f (view c.args.pass.seat) c.turn-state.result.0 fixed c.turn-state.ensures.took) fit
-      (carries_then g.S.Leasable.lease g.S.Leasable.journal g.S.Leasable.stands_for g.S.Workable.is_run g.S.Leasable.apart g.met.S.Workable.stays f c.first-seat.result (view c.args.pass.seat) c.turn-state.result.0 c.args.hand.now.items
-        c.first-seat.ensures fixed c.turn-state.ensures.took carries))
+    (stands_then g.S.Leasable.lease g.S.Leasable.journal g.S.Leasable.stands_for g.S.Workable.is_run g.S.Leasable.apart g.met.S.Workable.stays f (view c.args.pass.seat) c.turn-state.result.0 fixed c.turn-state.ensures.took) fit
+    (carries_then g.S.Leasable.lease g.S.Leasable.journal g.S.Leasable.stands_for g.S.Workable.is_run g.S.Leasable.apart g.met.S.Workable.stays f c.first-seat.result (view c.args.pass.seat) c.turn-state.result.0 c.args.hand.now.items
+    c.first-seat.ensures fixed c.turn-state.ensures.took carries))

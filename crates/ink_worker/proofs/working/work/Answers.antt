@@ -22,8 +22,8 @@ loop-preserved-then-is_empty g c = record {
   stays = stays_through (view c.args.pass.seat) (view c.loop.pass.seat) (view c.take_turn.result.0.seat) c.loop.invariant.stays c.take_turn.ensures.stays;
   deck = c.await_one.ensures;
   hand = λ f fixed fits.
-    c.take_turn.ensures.hand f c.args.limits.now (c.loop.invariant.stays.fixed ∙ fixed) fits
-    (c.run_all.ensures f (view c.loop.pass.seat).lease (view c.loop.pass.seat).seen fits (c.loop.invariant.hand f fixed fits));
+      c.take_turn.ensures.hand f c.args.limits.now (c.loop.invariant.stays.fixed ∙ fixed) fits
+      (c.run_all.ensures f (view c.loop.pass.seat).lease (view c.loop.pass.seat).seen fits (c.loop.invariant.hand f fixed fits));
 }
 
 pub loop-preserved : goal.loop-preserved
@@ -35,6 +35,6 @@ loop-preserved g c = record {
   stays = stays_through (view c.args.pass.seat) (view c.loop.pass.seat) (view c.take_turn.result.0.seat) c.loop.invariant.stays c.take_turn.ensures.stays;
   deck = c.tell.ensures;
   hand = λ f fixed fits.
-    c.take_turn.ensures.hand f c.args.limits.now (c.loop.invariant.stays.fixed ∙ fixed) fits
-    (c.run_all.ensures f (view c.loop.pass.seat).lease (view c.loop.pass.seat).seen fits (c.loop.invariant.hand f fixed fits));
+      c.take_turn.ensures.hand f c.args.limits.now (c.loop.invariant.stays.fixed ∙ fixed) fits
+      (c.run_all.ensures f (view c.loop.pass.seat).lease (view c.loop.pass.seat).seen fits (c.loop.invariant.hand f fixed fits));
 }

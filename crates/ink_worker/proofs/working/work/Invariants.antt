@@ -1,4 +1,4 @@
-use Rattle.std.proofs.Common.{◌≡◌, ℕ, Some}
+use Rattle.std.proofs.Common.{◌≡◌, Some}
 use Rattle.crossbeam_queue.specs.SegTies.{IsSegPassOf}
 use Rattle.ink_lease.specs.Rule.{view, IsIdle, IsSameSeat}
 use Rattle.ink_worker.specs.Hands.{Carries}
