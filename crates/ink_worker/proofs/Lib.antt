@@ -1,0 +1,3 @@
+mod HandLemmas
+mod HomeLemmas
+mod TurnLemmas
