@@ -1,0 +1,2 @@
+mod Homecoming
+mod Leases
