@@ -7,6 +7,7 @@ use Rattle.ink_base.specs.Limits.{limit_of}
 use Rattle.ink_base.specs.Numbered.{numbered, set_numbered}
 use Rattle.ink_law_turns.specs.Machines.{Machine}
 use Rattle.ink_leased.proofs.Leases.{home_apart, home_less, woken_leases}
+use Rattle.ink_leased.specs.Homecoming.{IsHome}
 use Rattle.ink_leased.specs.Lending.{lease_of}
 use Rattle.ink_leasing.specs.Leases.{Loses}
 use Rattle.ink_statuses.specs.Readings.{is_out}
@@ -14,12 +15,6 @@ use Rattle.ink_worlds.specs.State.{State, Came, Went, GivesUp, Wants, Spent, Ans
 use Rattle.ink_worlds.specs.declared.halt.Halt.{Halt}
 use Rattle.ink_worlds.specs.declared.status.Status.{Status}
 use Rattle.ink_worlds.specs.declared.status.Status.TheVariants.{Ready, Out, Stopped}
-
--- the process has a status at home, and all others are leased as before
-pub record IsHome (process : ℕ) (old new : List Status) : Type 0 where
-  pub status : Status
-  pub home : is_out status ≡ false
-  pub leases : (seat : ℕ) → lease_of new seat ≡ lease_of (set_numbered old process status) seat
 
 pub put_home : (process : ℕ) (status : Status) (old new : List Status) → is_out status ≡ false → new ≡ set_numbered old process status → IsHome process old new
 put_home process status old new home is = record { status = status; home = home; leases = λ seat. ap (λ (ss : List Status). lease_of ss seat) is }

@@ -1,2 +1,7 @@
+mod Abandoning
+mod Answering
 mod Homecoming
+mod Keeping
 mod Leases
+mod Lent
+mod Slices

@@ -1,10 +1,14 @@
-//! The world of a run as a state that workers lease processes of.
+//! The world of a run as a state that workers lease processes of, and a run by workers.
+//!
+//! How a turn is taken and which process is to run next are not known here; nor is what an action does.
 #![tactic(auto)]
-ghost use Rattle.std.specs.Prelude.{List, ℕ};
-ghost use Rattle.ink_leasing.specs.Leases.{AreApart};
-ghost use Rattle.ink_leased.specs.Lending.{lease_of};
-ghost use Rattle.ink_worlds.specs.declared.status.Status.{Status};
 
-pub fn nothing() 
-  ensures { (s : List Status) → AreApart (lease_of s) }
-{}
+mod away;
+mod home;
+mod leased;
+mod lending;
+mod running;
+
+pub use away::Away;
+pub use leased::{Began, Leased};
+pub use running::run_workers;
