@@ -5,3 +5,4 @@ mod Keeping
 mod Leases
 mod Lent
 mod Slices
+mod Working

@@ -21,3 +21,10 @@ slice_comes code limits was came p q turns stepped went is sliced journal proces
     let low = subst (λ (x : Process). x.ran ≤ limit_of limit.Local limits) (sym comes.from) comes.within in
     subst (λ (x : Came). ComesOn code limits journal process x q) (sym is)
     (comes_by code limits journal process turns p q stepped at low sliced)
+
+-- the same where the code and the limits are told to be these
+pub comes_as : (code other : Code) (limits others journal : List ℕ) (process : ℕ) (was came : Came) (p q : Process) → (code ≡ other) × (limits ≡ others)
+    → ((js : List ℕ) (number : ℕ) → ComesOn code limits js number was p → ComesOn code limits js number came q) → ComesOn other others journal process was p → ComesOn other others journal process came q
+comes_as code other limits others journal process was came p q same leads before =
+    let here = subst (λ (x : Code). ComesOn x limits journal process was p) (sym same.0) (subst (λ (l : List ℕ). ComesOn other l journal process was p) (sym same.1) before) in
+    subst (λ (l : List ℕ). ComesOn other l journal process came q) same.1 (subst (λ (x : Code). ComesOn x limits journal process came q) same.0 (leads journal process here))
