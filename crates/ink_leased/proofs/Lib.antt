@@ -1,5 +1,6 @@
 mod Abandoning
 mod Answering
+mod Beginning
 mod Homecoming
 mod Keeping
 mod Leases

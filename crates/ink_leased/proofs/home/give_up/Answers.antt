@@ -6,8 +6,8 @@ use Rattle.ink_proc.specs.State.{state_of}
 use Rattle.ink_run.specs.Sinks.{sink_of}
 use Rattle.ink_run.specs.Written.{wrong_after}
 
-pub returns-in-Ok : goal.returns-in-Ok
-returns-in-Ok g c =
+pub returns : goal.returns
+returns g c =
     comes_in c.args.code.now c.args.process came.GivesUp (state_of c.args.proc) c.args.world.now.post c.check_in.new.self.post
     (sink_of g.K.Sink.contents g.K.Sink.faults c.args.world.now.sink) (sink_of g.K.Sink.contents g.K.Sink.faults c.check_in.new.self.sink)
     c.in-Ok.applied c.is_over.result c.is_over.ensures c.requires.goes c.requires.right c.check_in.ensures.limits c.in-Ok.ensures.checks
