@@ -1,5 +1,5 @@
 -- What lending a process, and abandoning one, make of what a leased world stands for.
-use Rattle.std.proofs.Common.{◌≡◌, ◌≢◌, ℕ, Option, None, Some, List, refl, sym, ap, ◌∙◌, subst, arith, suc, ◌+◌}
+use Rattle.std.proofs.Common.{◌≡◌, ◌≢◌, ℕ, Option, None, Some, List, [], refl, sym, ap, ◌∙◌, subst, arith, suc, ◌+◌}
 use Rattle.ink_base.specs.Numbered.{numbered, set_numbered}
 use Rattle.ink_code.specs.declared.code.Code.{Code}
 use Rattle.ink_code.specs.Process.{Process}

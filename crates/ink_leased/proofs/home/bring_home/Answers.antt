@@ -21,8 +21,8 @@ give_up-requires-clause-goes g c = ap (λ (s : CodeState). s.halt) (c.in-Err.ens
 pub give_up-requires-clause-right : goal.give_up-requires-clause-right
 give_up-requires-clause-right g c = c.check_in.ensures.wrong ∙ (ap (λ r. wrong_after r c.args.process c.args.world.now.post.wrong) c.in-Err.is ∙ c.requires.right)
 
-pub returns-in-Err : goal.returns-in-Err
-returns-in-Err g c =
+pub returns : goal.returns
+returns g c =
     let before = sink_of g.K.Sink.contents g.K.Sink.faults c.args.world.now.sink in
     let between = sink_of g.K.Sink.contents g.K.Sink.faults c.check_in.new.self.sink in
     let after = sink_of g.K.Sink.contents g.K.Sink.faults c.give_up.new.world.sink in
