@@ -72,3 +72,9 @@ none_out statuses none = out_from 1 statuses none
 
 pub rests_so : (post : Post) (is_over : Bool) → is_over ≡ has_ended post → (is_over || not (is_up post.statuses.items)) ≡ true → rests post ≡ true
 rests_so post is_over over rest = ap (λ (b : Bool). b || not (is_up post.statuses.items)) (sym over) ∙ rest
+
+-- what a world stands for that came of this one
+pub told : {K : Type 0} (seen : K → SinkState) (code : Code) (world : World K) (began : Began K) (leased : Leased K) → began.code.value ≡ code → began.world.value ≡ world → IsLeased seen leased began → StandsFor code world.post (seen world.sink) leased.world.post (seen leased.world.sink) leased.is_over
+told {K} seen code world began leased same_code same is =
+    subst (λ (x : Code). StandsFor x world.post (seen world.sink) leased.world.post (seen leased.world.sink) leased.is_over) same_code
+    (subst (λ (x : World K). StandsFor began.code.value x.post (seen x.sink) leased.world.post (seen leased.world.sink) leased.is_over) same is.stands)

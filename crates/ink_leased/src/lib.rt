@@ -7,6 +7,8 @@ mod away;
 mod home;
 mod leased;
 mod lending;
+mod running;
 
 pub use away::Away;
 pub use leased::{Began, Leased};
+pub use running::run_workers;

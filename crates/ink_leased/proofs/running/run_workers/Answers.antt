@@ -1,0 +1,23 @@
+use Rattle.std.proofs.Common.{◌∙◌, ap, sym}
+use Rattle.ink_leased.proofs.Beginning.{none_out, rests_so, told}
+use Rattle.ink_leased.proofs.running.run_workers.Goals as goal
+use Rattle.ink_run.specs.Sinks.{sink_of}
+
+pub run_shared-leased-requires-clause-fits : goal.run_shared-leased-requires-clause-fits
+run_shared-leased-requires-clause-fits g c = (sym c.lease_out-leased.ensures.began.0, c.limits.ensures ∙ ap (λ world. world.post.limits) (sym c.lease_out-leased.ensures.began.1))
+
+pub returns : goal.returns
+returns g c =
+    let before = c.lease_out-leased.result in
+    let after = c.run_shared-leased.result.0 in
+    let stands = told (sink_of g.K.Sink.contents g.K.Sink.faults) c.args.code.now c.args.world before.began after c.lease_out-leased.ensures.began.0 c.lease_out-leased.ensures.began.1 c.run_shared-leased.ensures.stands in
+    record {
+      limits = stands.limits;
+      stands = stands.stands;
+      written = stands.written;
+      went = stands.went;
+      wrong = stands.wrong;
+      ended = stands.ended;
+      home = none_out after.world.post.statuses.items c.run_shared-leased.ensures.no_lease;
+      rests = λ whole. rests_so after.world.post after.is_over stands.over (c.run_shared-leased.ensures.rest whole);
+    }
