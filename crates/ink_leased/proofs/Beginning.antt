@@ -6,7 +6,7 @@ use Rattle.std.specs.Option.{is_some}
 use Rattle.std.specs.Prelude.{IfSome, not}
 use Rattle.ink_code.specs.declared.code.Code.{Code}
 use Rattle.ink_leased.proofs.Keeping.{went_of}
-use Rattle.ink_leased.specs.Leased.{IsLeased}
+use Rattle.ink_leased.specs.Leased.{Fits, IsLeased}
 use Rattle.ink_leased.specs.Lending.{lease_from, lease_of}
 use Rattle.ink_leased.specs.Standing.{StandsFor, has_ended, is_up, rests}
 use Rattle.ink_leased.specs.declared.leased.Began.{Began}
@@ -78,3 +78,7 @@ pub told : {K : Type 0} (seen : K → SinkState) (code : Code) (world : World K)
 told {K} seen code world began leased same_code same is =
     subst (λ (x : Code). StandsFor x world.post (seen world.sink) leased.world.post (seen leased.world.sink) leased.is_over) same_code
     (subst (λ (x : World K). StandsFor began.code.value x.post (seen x.sink) leased.world.post (seen leased.world.sink) leased.is_over) same is.stands)
+
+-- the code and the limits are those of the world with which it begins
+pub fits_so : {K : Type 0} (code : Code) (limits : List ℕ) (world : World K) (began : Began K) → began.code.value ≡ code → began.world.value ≡ world → limits ≡ world.post.limits → Fits began code limits
+fits_so {K} code limits world began same_code same is = (sym same_code, is ∙ ap (λ (x : World K). x.post.limits) (sym same))

@@ -1,10 +1,14 @@
-use Rattle.std.proofs.Common.{◌∙◌, ap, sym}
-use Rattle.ink_leased.proofs.Beginning.{none_out, rests_so, told}
+use denote.Param.Send.{sendable}
+use Rattle.ink_leased.proofs.Beginning.{fits_so, none_out, rests_so, told}
 use Rattle.ink_leased.proofs.running.run_workers.Goals as goal
 use Rattle.ink_run.specs.Sinks.{sink_of}
 
+pub run_shared-leased-requires-send-S : goal.run_shared-leased-requires-send-S
+run_shared-leased-requires-send-S g c = λ lifetimes. ?
+
 pub run_shared-leased-requires-clause-fits : goal.run_shared-leased-requires-clause-fits
-run_shared-leased-requires-clause-fits g c = (sym c.lease_out-leased.ensures.began.0, c.limits.ensures ∙ ap (λ world. world.post.limits) (sym c.lease_out-leased.ensures.began.1))
+run_shared-leased-requires-clause-fits g c =
+    λ lifetimes. fits_so c.args.code.now c.limits.result.now c.args.world c.lease_out-leased.result.began c.lease_out-leased.ensures.began.0 c.lease_out-leased.ensures.began.1 c.limits.ensures
 
 pub returns : goal.returns
 returns g c =
