@@ -91,7 +91,7 @@ module _ (code : Code) (old new : Post) (before after : SinkState) where
           written = λ right origin written. kept_written keeps origin (s.written (sym keeps.wrong ∙ right) origin written);
           went = λ origin written. went_as origin same keeps.sink (s.went origin written);
           wrong = ends_as same keeps.wrong s.wrong;
-          ended = elim s.ended [ | inl calm ↦ inl (keeps.halt ∙ calm) | inr right ↦ inr (keeps.wrong ∙ right) ];
+          ended = elim s.ended [ inl calm ↦ inl (keeps.halt ∙ calm) | inr right ↦ inr (keeps.wrong ∙ right) ];
           over = s.over ∙ (ap (λ (h : Option Halt). is_some h || is_some old.wrong) (sym keeps.halt) ∙ ap (λ (o : Option ℕ). is_some new.halt || is_some o) (sym keeps.wrong));
         }
 

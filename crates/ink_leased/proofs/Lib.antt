@@ -5,5 +5,6 @@ mod Homecoming
 mod Keeping
 mod Leases
 mod Lent
+mod Sending
 mod Slices
 mod Working

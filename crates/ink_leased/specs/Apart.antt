@@ -78,12 +78,13 @@ out_seat : (a b ran more : ℕ) → Some (Out a ran) ≡ Some (Out b more) → a
 out_seat a b ran more e = cc
 
 pub leases_apart : (statuses : List Status) → AreApart (lease_of statuses)
-leases_apart statuses =
-    ((λ a b p here there.
-        let one = found 1 statuses a p here in
-        let other = found 1 statuses b p there in
-        let first : p ≡ 1 + one.place = one.is in
-        let second : p ≡ 1 + other.place = other.is in
-        let same : one.place ≡ other.place = omega arith in
-        out_seat a b one.ran other.ran (sym one.at ∙ (ap (λ (n : ℕ). slice_get statuses n) same ∙ other.at))),
-    (λ seat p. at_most_once 1 statuses seat p))
+leases_apart statuses = (
+  (λ a b p here there.
+      let one = found 1 statuses a p here in
+      let other = found 1 statuses b p there in
+      let first : p ≡ 1 + one.place = one.is in
+      let second : p ≡ 1 + other.place = other.is in
+      let same : one.place ≡ other.place = omega arith in
+      out_seat a b one.ran other.ran (sym one.at ∙ (ap (λ (n : ℕ). slice_get statuses n) same ∙ other.at))),
+  (λ seat p. at_most_once 1 statuses seat p),
+)

@@ -27,7 +27,7 @@ returns g c =
     let between = sink_of g.K.Sink.contents g.K.Sink.faults c.check_in.new.self.sink in
     let after = sink_of g.K.Sink.contents g.K.Sink.faults c.give_up.new.world.sink in
     let keeps = same_keeps c.args.world.now.post c.check_in.new.self.post before between c.check_in.ensures.limits
-        (c.check_in.ensures.wrong ∙ ap (λ r. wrong_after r c.args.process c.args.world.now.post.wrong) c.in-Err.is)
-        (ap (sink_of g.K.Sink.contents g.K.Sink.faults) c.in-Err.ensures.sink) c.args.code.now c.in-Err.ensures.same in
+    (c.check_in.ensures.wrong ∙ ap (λ r. wrong_after r c.args.process c.args.world.now.post.wrong) c.in-Err.is)
+    (ap (sink_of g.K.Sink.contents g.K.Sink.faults) c.in-Err.ensures.sink) c.args.code.now c.in-Err.ensures.same in
     comes_behind c.args.code.now c.args.process c.args.world.now.post c.check_in.new.self.post c.give_up.new.world.post before between after
     c.in-Err.ensures.same keeps c.give_up.result.is_over c.give_up.ensures

@@ -1,14 +1,16 @@
 use denote.Param.Send.{sendable}
+use Rattle.std.proofs.Crossing.{crosses}
 use Rattle.ink_leased.proofs.Beginning.{fits_so, none_out, rests_so, told}
+use Rattle.ink_leased.proofs.Sending.{post_send}
 use Rattle.ink_leased.proofs.running.run_workers.Goals as goal
 use Rattle.ink_run.specs.Sinks.{sink_of}
 
 pub run_shared-leased-requires-send-S : goal.run_shared-leased-requires-send-S
-run_shared-leased-requires-send-S g c = λ lifetimes. ?
+run_shared-leased-requires-send-S g c = λ lifetimes outlives. let bound = c.type_bounds.send-K in search (post_send, sendable, crosses) depth 30
 
 pub run_shared-leased-requires-clause-fits : goal.run_shared-leased-requires-clause-fits
 run_shared-leased-requires-clause-fits g c =
-    λ lifetimes. fits_so c.args.code.now c.limits.result.now c.args.world c.lease_out-leased.result.began c.lease_out-leased.ensures.began.0 c.lease_out-leased.ensures.began.1 c.limits.ensures
+    λ lifetimes outlives. fits_so c.args.code.now c.limits.result.now c.args.world c.lease_out-leased.result.began c.lease_out-leased.ensures.began.0 c.lease_out-leased.ensures.began.1 c.limits.ensures
 
 pub returns : goal.returns
 returns g c =
