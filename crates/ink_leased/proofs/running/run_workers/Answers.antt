@@ -1,12 +1,12 @@
 use denote.Param.Send.{sendable}
 use Rattle.std.proofs.Crossing.{crosses}
 use Rattle.ink_leased.proofs.Beginning.{fits_so, none_out, rests_so, told}
-use Rattle.ink_leased.proofs.Sending.{post_send}
+use Rattle.ink_leased.proofs.Sending.{leased_send}
 use Rattle.ink_leased.proofs.running.run_workers.Goals as goal
 use Rattle.ink_run.specs.Sinks.{sink_of}
 
 pub run_shared-leased-requires-send-S : goal.run_shared-leased-requires-send-S
-run_shared-leased-requires-send-S g c = λ lifetimes outlives. let bound = c.type_bounds.send-K in search (post_send, sendable, crosses) depth 30
+run_shared-leased-requires-send-S g c = λ lifetimes outlives. let bound = c.type_bounds.send-K in search (leased_send, sendable, crosses) depth 100 fits 4000
 
 pub run_shared-leased-requires-clause-fits : goal.run_shared-leased-requires-clause-fits
 run_shared-leased-requires-clause-fits g c =
