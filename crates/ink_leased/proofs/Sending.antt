@@ -27,15 +27,16 @@ futures_send = search (Vec-send, sendable, crosses) depth 100 fits 4000
 mail_send : IsSend Mailboxes.the_row
 mail_send = search (Vec-send, Deque-send, sendable, crosses) depth 100 fits 4000
 
-pub post_send : IsSend Post.the_row
-post_send = search (proc_send, statuses_send, futures_send, mail_send, Vec-send, sendable, crosses) depth 100 fits 4000
+-- a struct's fields as what holds it has them
+post_field : IsSend (Post.the_field).row
+post_field = search (proc_send, statuses_send, futures_send, mail_send, Vec-send, sendable, crosses) depth 100 fits 4000
 
 module _ (K : RattleType) (bound : IsSend K) where
-  world_send : IsSend (World.the_row K)
-  world_send = search (post_send, sendable, crosses) depth 100 fits 4000
+  world_field : IsSend (World.the_field K).row
+  world_field = search (post_field, sendable) depth 20
 
-  began_send : IsSend (Began.the_row K)
-  began_send = search (post_send, sendable, crosses) depth 100 fits 4000
+  began_field : IsSend (Began.the_field K).row
+  began_field = search (sendable, crosses) depth 100 fits 4000
 
   pub leased_send : IsSend (Leased.the_row K)
-  leased_send = search (world_send, began_send, sendable, crosses) depth 100 fits 4000
+  leased_send = search (world_field, began_field, sendable) depth 20
