@@ -1,5 +1,5 @@
 -- A world of which a lent process is gone is ahead of its journal still.
-use Rattle.std.proofs.Common.{◌≡◌, ◌≢◌, ℕ, Option, None, Some, List, refl, sym, ap, ◌∙◌, subst, inl, inr, ◌⊎◌}
+use Rattle.std.proofs.Common.{◌≡◌, ◌≢◌, ℕ, Option, None, Some, List, sym, ap, ◌∙◌, subst, inl, inr}
 use Rattle.std.proofs.lemmas.Bool.{cases_eq}
 use Rattle.ink_base.specs.Numbered.{numbered, set_numbered}
 use Rattle.ink_law_turns.proofs.Numbering.{length-set_numbered, numbered-set_other, numbered-set_same}

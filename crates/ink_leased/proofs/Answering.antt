@@ -1,5 +1,5 @@
 -- What a check-in makes of a world, by what it answers.
-use Rattle.std.proofs.Common.{◌≡◌, ◌≢◌, ℕ, Bool, true, false, ◌||◌, Option, None, Some, Result, Ok, Err, List, [], ◌∷◌, ◌++◌, refl, sym, ap, ◌∙◌, subst, inl, inr, ◌⊎◌}
+use Rattle.std.proofs.Common.{◌≡◌, ℕ, Bool, true, false, ◌||◌, Option, None, Some, Ok, List, [], ◌∷◌, ◌++◌, refl, sym, ap, ◌∙◌, subst, inl, inr}
 use Rattle.std.specs.Option.{is_some}
 use Rattle.ink_base.specs.Numbered.{set_numbered}
 use Rattle.ink_code.specs.declared.code.Code.{Code}
@@ -10,7 +10,6 @@ use Rattle.ink_leased.proofs.Homecoming.{checks_home, put_home}
 use Rattle.ink_leased.proofs.Keeping.{Keeps, kept_written}
 use Rattle.ink_leased.specs.Homecoming.{ComesIn, IsHome, LeavesBy, over_by}
 use Rattle.ink_leased.specs.Lending.{lease_of}
-use Rattle.ink_leased.specs.Standing.{has_ended}
 use Rattle.ink_leasing.specs.Leases.{OneMore}
 use Rattle.ink_post.proofs.EntriesLemmas.{checks_halts}
 use Rattle.ink_post.specs.Answers.{ChecksBy, ChecksHome, told_answer, with_line}
@@ -24,14 +23,12 @@ use Rattle.ink_post.specs.declared.answer.Came.{Came as OneCame}
 use Rattle.ink_post.specs.declared.answer.End.TheVariants as end
 use Rattle.ink_post.specs.declared.post.Post.{Post}
 use Rattle.ink_run.specs.Sinks.{SinkState}
-use Rattle.ink_run.specs.Written.{ChecksOut, KeepsWritten, StandsOn, StaysWritten, TellsWrong, Writes, WritesLine, applied_of, wrong_by}
+use Rattle.ink_run.specs.Written.{ChecksOut, KeepsWritten, StandsOn, StaysWritten, TellsWrong, Writes, WritesLine, wrong_by}
 use Rattle.ink_run.specs.declared.applied.Applied.{Applied}
 use Rattle.ink_run.specs.declared.applied.Applied.TheVariants as applied
 use Rattle.ink_worlds.specs.State.{Came, ChecksIn, put_in}
 use Rattle.ink_worlds.specs.State as w
 use Rattle.ink_worlds.specs.declared.halt.Halt.{Halt}
-use Rattle.ink_worlds.specs.declared.halt.Halt.TheVariants as halt
-use Rattle.ink_worlds.specs.declared.status.Status.{Status}
 use Rattle.ink_worlds.specs.declared.status.Status.TheVariants.{Stopped}
 
 -- whether an answer ends the run

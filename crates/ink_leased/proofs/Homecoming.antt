@@ -1,5 +1,5 @@
 -- What a check-in makes of the leases: the process is home, and all else is leased as before.
-use Rattle.std.proofs.Common.{◌≡◌, ◌≢◌, ℕ, Bool, true, false, Option, None, Some, List, refl, sym, ap, ◌∙◌, length}
+use Rattle.std.proofs.Common.{◌≡◌, ◌≢◌, ℕ, Bool, true, false, Option, None, Some, List, refl, ap, ◌∙◌, length}
 use Rattle.std.specs.Prelude.{nat_le}
 use Rattle.ink_base.specs.declared.limits.Limit.TheVariants as limit
 use Rattle.ink_base.specs.Actions.{Action, Take, Print, Spawn, Send, NewFuture, SetFuture, BreakFuture, GetFuture, Panic, is_enabled, as_made}

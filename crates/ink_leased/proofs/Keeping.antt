@@ -1,5 +1,5 @@
 -- What a leased world stands for, while no event is made, and when a process comes home.
-use Rattle.std.proofs.Common.{◌≡◌, ℕ, Bool, true, false, ◌||◌, Option, None, Some, List, refl, sym, ap, ◌∙◌, subst, inl, inr, ◌⊎◌}
+use Rattle.std.proofs.Common.{◌≡◌, ℕ, Bool, false, ◌||◌, Option, None, Some, List, refl, sym, ap, ◌∙◌, subst, inl, inr}
 use Rattle.std.specs.Prelude.{IfSome}
 use Rattle.std.specs.Option.{is_some}
 use Rattle.ink_base.specs.Actions.{SharedState}
@@ -8,9 +8,9 @@ use Rattle.ink_code.specs.Trees.{Parcel}
 use Rattle.ink_law_runs.specs.CodeMachine.{code_machine, opening_run}
 use Rattle.ink_law_turns.specs.Turns.{Turns}
 use Rattle.ink_leased.specs.Homecoming.{ComesIn, LeavesBy}
-use Rattle.ink_leased.specs.Standing.{HasTurned, StandsFor, WentOut, has_ended}
+use Rattle.ink_leased.specs.Standing.{HasTurned, StandsFor, WentOut}
 use Rattle.ink_post.specs.Meaning.{Ends}
-use Rattle.ink_post.specs.Worlds.{Stands, StandsAfter}
+use Rattle.ink_post.specs.Worlds.{StandsAfter}
 use Rattle.ink_post.specs.declared.answer.End.TheVariants as end
 use Rattle.ink_post.specs.declared.post.Post.{Post}
 use Rattle.ink_run.specs.Sinks.{SinkState}

@@ -1,5 +1,5 @@
 -- What lending a process, and abandoning one, make of what a leased world stands for.
-use Rattle.std.proofs.Common.{◌≡◌, ◌≢◌, ℕ, Option, None, Some, List, [], refl, sym, ap, ◌∙◌, subst, arith, suc, ◌+◌}
+use Rattle.std.proofs.Common.{◌≡◌, ◌≢◌, ℕ, None, Some, List, [], refl, sym, ap, ◌∙◌, subst, arith, suc, ◌+◌}
 use Rattle.ink_base.specs.Numbered.{numbered, set_numbered}
 use Rattle.ink_code.specs.declared.code.Code.{Code}
 use Rattle.ink_code.specs.Process.{Process}
@@ -22,7 +22,6 @@ use Rattle.ink_post.specs.declared.post.Post.{Post}
 use Rattle.ink_run.specs.Sinks.{SinkState}
 use Rattle.ink_worlds.proofs.Stands.{checks_out}
 use Rattle.ink_worlds.specs.State.{checked_out, put_in}
-use Rattle.ink_worlds.specs.declared.halt.Halt.{Halt}
 use Rattle.ink_worlds.specs.declared.status.Status.{Status}
 use Rattle.ink_worlds.specs.declared.status.Status.TheVariants.{Out, Ready, Stopped}
 

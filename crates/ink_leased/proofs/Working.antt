@@ -1,10 +1,9 @@
 -- What the calls of workers make of a leased world.
-use Rattle.std.proofs.Common.{◌≡◌, ◌≢◌, ℕ, Bool, true, false, Option, None, Some, List, refl, sym, ap, ◌∙◌, subst}
-use Rattle.std.specs.Prelude.{IfSome}
+use Rattle.std.proofs.Common.{◌≡◌, ◌≢◌, ℕ, Bool, false, None, List, sym, ◌∙◌, subst}
 use Rattle.ink_code.specs.declared.code.Code.{Code}
 use Rattle.ink_leased.proofs.Homecoming.{is_apart, is_less}
 use Rattle.ink_leased.proofs.Keeping.{comes_for, kept_for, no_end}
-use Rattle.ink_leased.proofs.Lent.{abandoned_home, abandoned_keeps, is_coming, is_lent}
+use Rattle.ink_leased.proofs.Lent.{abandoned_keeps, is_coming, is_lent}
 use Rattle.ink_leased.specs.Homecoming.{ComesIn, IsHome}
 use Rattle.ink_leased.specs.Leased.{Fits, IsLeased, IsRun}
 use Rattle.ink_leased.specs.Lending.{lease_of}
@@ -13,14 +12,11 @@ use Rattle.ink_leased.specs.declared.away.Away.{Away}
 use Rattle.ink_leased.specs.declared.leased.Began.{Began}
 use Rattle.ink_leased.specs.declared.leased.Leased.{Leased}
 use Rattle.ink_leasing.specs.Leases.{Has, Loses}
-use Rattle.ink_post.specs.Asks.{ComesOn, IsComing}
+use Rattle.ink_post.specs.Asks.{IsComing}
 use Rattle.ink_post.specs.Worlds.{Stands, world_of}
-use Rattle.ink_post.specs.declared.post.Post.{Post}
 use Rattle.ink_proc.specs.State.{state_of}
 use Rattle.ink_run.specs.Sinks.{SinkState}
-use Rattle.ink_run.specs.declared.world.World.{World}
 use Rattle.ink_worlds.specs.State.{put_in}
-use Rattle.ink_worlds.specs.declared.halt.Halt.{Halt}
 use Rattle.ink_worlds.specs.declared.status.Status.{Status}
 use Rattle.ink_worlds.specs.declared.status.Status.TheVariants.{Stopped}
 

@@ -1,5 +1,5 @@
 -- What a world stands for whose processes are leased: the one with which it began, gone on.
-use Rattle.std.specs.Prelude.{◌≡◌, ◌⊎◌, ◌||◌, not, ℕ, Bool, Option, None, IfSome, List}
+use Rattle.std.specs.Prelude.{◌≡◌, ◌⊎◌, ◌||◌, not, ℕ, Bool, None, IfSome, List}
 use Rattle.std.specs.List.{list_any, position}
 use Rattle.std.specs.Option.{is_some}
 use Rattle.ink_code.specs.declared.code.Code.{Code}

@@ -1,5 +1,5 @@
 -- Events of others leave a process that is away as it is.
-use Rattle.std.proofs.Common.{◌≡◌, ℕ, List, [], ◌∷◌, ◌++◌, sym, ◌∙◌, subst}
+use Rattle.std.proofs.Common.{◌≡◌, ℕ, List, [], ◌∷◌, ◌++◌, sym, subst}
 use Rattle.ink_code.specs.declared.code.Code.{Code}
 use Rattle.ink_code.specs.Process.{Process}
 use Rattle.ink_law_runs.specs.CodeMachine.{code_machine, opening_run}
