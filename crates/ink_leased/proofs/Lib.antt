@@ -1,0 +1,10 @@
+mod Abandoning
+mod Answering
+mod Beginning
+mod Homecoming
+mod Keeping
+mod Leases
+mod Lent
+mod Sending
+mod Slices
+mod Working

@@ -1,0 +1,6 @@
+pub mod Apart
+pub mod Homecoming
+pub mod Leased
+pub mod Lending
+pub mod Standing
+pub mod Staying
