@@ -1,54 +1,32 @@
 -- The code of a pattern: the test whether it fits, what the chosen arm does, and what a guard reads.
-use Rattle.std.specs.Prelude.{◌≡◌, ◌+◌, ◌++◌, ◌∷◌, ◌&&◌, ◌||◌, ◌==◌, not, ℕ, zero, suc, Bool, true, false, List, [], Option, None, Some, if◌then◌else◌}
-use Rattle.ink_code.specs.declared.instr.Instr.TheVariants as i
+use Rattle.std.specs.Prelude.{◌+◌, ◌∷◌, ◌&&◌, ◌||◌, ◌==◌, ℕ, zero, suc, Bool, true, false, List, [], Option, None, Some, if◌then◌else◌}
 use Rattle.ink_code.specs.declared.instr.Instr.{Instr}
+use Rattle.ink_code.specs.declared.instr.Instr.TheVariants as i
 use Rattle.ink_code.specs.RowNumbers as row
 use Rattle.ink_emit.specs.declared.given.Given.TheVariants as given
-use Rattle.ink_emit.specs.declared.held.Held.{Held}
 use Rattle.ink_emit.specs.declared.held.Holding.TheVariants as holding
 use Rattle.ink_forms.specs.declared.word.Literal.{Literal}
 use Rattle.ink_forms.specs.declared.word.Literal.TheVariants as literal
 use Rattle.ink_forms.specs.Trees.{Pat, Pats, FieldPats, Wildcard, LitPat, Name, Constructor, Either, Fields, NoPat, AndPat, NoField, AndField}
-use Rattle.ink_layout.specs.Points.{Site, Point, Piece, free, holding_only, Emits, EmitsAll, Holds}
-
--- a stretch of code that gives nothing
-abbrev pub Stretch : Type 1
-Stretch = Point → Point → Type 0
+use Rattle.ink_layout.specs.Pieces.{Site, Piece, at_its_place, behind, choose, does, drop_unless_value, free, giving, holds, nothing, released, told_its_end, told_the_place_between, with_free}
 
 -- the free register holds something meanwhile, and nothing more is held behind it
-abbrev pub Within : Site → (ℕ → Stretch) → Stretch
-Within m a u v = (w x : Point) × Holds m (free m u) holding.Operand u w × a (free m u) w x × (v ≡ holding_only u.held x)
-
--- one stretch and then another
-abbrev pub Behind : Stretch → Stretch → Stretch
-Behind a b u v = (w : Point) × a u w × b w v
-
--- a test, and one stretch or the other
-abbrev pub choose : Bool → Stretch → Stretch → Stretch
-choose true a b = a
-choose false a b = b
-
-abbrev pub Skips : Stretch
-Skips u v = v ≡ u
+abbrev pub meanwhile : Site → (ℕ → Piece) → Piece
+meanwhile m a = with_free m (λ r. released (behind (holds holding.Operand r) (a r)))
 
 -- it goes on only where a register holds true, and elsewhere at a place
-abbrev pub OnlyWhere : Site → ℕ → ℕ → Stretch
-OnlyWhere m on otherwise u v = EmitsAll m (i.JumpIf on (suc (suc u.place)) ∷ i.Jump otherwise ∷ []) u v
+abbrev pub only_where : ℕ → ℕ → Piece
+only_where on otherwise = at_its_place (λ here. does (i.JumpIf on (here + 2) ∷ i.Jump otherwise ∷ []))
 
 -- so many parts, from a place on, in the order of the fields
-abbrev pub EachPart : ℕ → ℕ → (ℕ → Stretch) → Stretch
-EachPart zero k part u v = v ≡ u
-EachPart (suc n) k part u v = Behind (part k) (EachPart n (suc k) part) u v
+abbrev pub each_part : ℕ → ℕ → (ℕ → Piece) → Piece
+each_part zero k part = nothing
+each_part (suc n) k part = behind (part k) (each_part n (suc k) part)
 
 -- the same, where each part is told whether something was tested before it
-abbrev pub EachTest : ℕ → ℕ → (ℕ → Bool) → (ℕ → Bool → Stretch) → Bool → Stretch
-EachTest zero k tested part before u v = v ≡ u
-EachTest (suc n) k tested part before u v = Behind (part k before) (EachTest n (suc k) tested part (before || tested k)) u v
-
--- what was matched ends where no name takes it; a value needs no end
-abbrev pub end_of_matched : Bool → ℕ → List Instr
-end_of_matched true from = []
-end_of_matched false from = i.Drop from ∷ []
+abbrev pub each_test : ℕ → ℕ → (ℕ → Bool) → (ℕ → Bool → Piece) → Bool → Piece
+each_test zero k tested part before = nothing
+each_test (suc n) k tested part before = behind (part k before) (each_test n (suc k) tested part (before || tested k))
 
 -- the number of a pattern
 abbrev pub number_of_pattern : Pat → ℕ
@@ -59,17 +37,19 @@ number_of_pattern (Constructor s x ps) = s.number
 number_of_pattern (Either s ps) = s.number
 number_of_pattern (Fields s fs) = s.number
 
-abbrev pub end_of_part : Site → Pat → ℕ → List Instr
-end_of_part m p from = end_of_matched (m.is_value (number_of_pattern p)) from
+-- what was matched with a pattern ends; a value needs no end
+abbrev pub end_of_part : Site → Pat → ℕ → Piece
+end_of_part m p from = does (drop_unless_value (m.is_value (number_of_pattern p)) from)
 
 -- registers one behind the other
 abbrev pub registers_from : ℕ → ℕ → List ℕ
 registers_from r zero = []
 registers_from r (suc n) = r ∷ registers_from (suc r) n
 
-abbrev pub held_from : ℕ → ℕ → List Held
-held_from r zero = []
-held_from r (suc n) = record { register = r; holding = holding.Operand } ∷ held_from (suc r) n
+-- so many registers are held one above the other
+abbrev pub holds_from : ℕ → ℕ → Piece
+holds_from r zero = nothing
+holds_from r (suc n) = behind (holds holding.Operand r) (holds_from (suc r) n)
 
 -- Whether some value of its type may not fit a pattern.
 abbrev pub is_tested_literal : Literal → Bool
@@ -124,118 +104,133 @@ abbrev pub tag_test : Option ℕ → ℕ → ℕ → ℕ → List Instr
 tag_test None from to other = []
 tag_test (Some k) from to other = i.Tag to from ∷ i.Const other k ∷ i.Prim row.int_equal to (to ∷ other ∷ []) ∷ []
 
--- It goes on behind the tests before, where there were some, only where they held.
-abbrev pub Further : Site → Bool → ℕ → ℕ → Stretch
-Further m true to end u v = OnlyWhere m to end u v
-Further m false to end u v = v ≡ u
+-- behind tests it goes on only where they held
+abbrev pub further : Bool → ℕ → ℕ → Piece
+further before to end = choose before (only_where to end) nothing
+
+-- the test of an object: that of its tag, and then its parts, of which the first that fails ends it
+abbrev pub object_test : Site → ℕ → (ℕ → Bool) → (ℕ → Bool → ℕ → Piece) → ℕ → ℕ → Piece
+object_test m n tested part from to =
+    told_its_end
+      (λ end.
+        behind (with_free m (λ other. does (tag_test (m.tested_tag n) from to other)))
+          (each_test (m.field_count n) 0 tested (λ k before. part k before end) (has_tag (m.tested_tag n))))
+
+-- the test of a part, where it is tested: its borrow ends behind the test
+abbrev pub part_test : Site → Pat → Bool → ℕ → ℕ → ℕ → ℕ → (ℕ → Piece) → Piece
+part_test m p before k from to end test =
+    choose (is_tested m p)
+      (behind (further before to end) (meanwhile m (λ r. behind (does (i.LoadBorrow r from k ∷ [])) (behind (test r) (end_of_part m p r)))))
+      nothing
+
+-- a truth value comes into a register
+abbrev pub puts_true : Site → ℕ → Piece
+puts_true m to = does (i.Const to (m.constant (literal.Bool true)) ∷ [])
 
 -- Whether the value in a register fits a pattern comes into another one. The value stays.
 abbrev mutual
-  pub TestAt : Site → Pat → ℕ → ℕ → Stretch
-  TestAt m (Wildcard s) from to u v = Emits m (i.Const to (m.constant (literal.Bool true))) u v
-  TestAt m (Name s x y) from to u v = Emits m (i.Const to (m.constant (literal.Bool true))) u v
-  TestAt m (LitPat s x) from to u v = EmitsAll m (i.Copy to from ∷ literal_test m x to (free m u)) u v
-  TestAt m (Either s ps) from to u v = TestAny m ps from to v.place u v
-  TestAt m (Constructor s x ps) from to u v =
-      Behind (EmitsAll m (tag_test (m.tested_tag s.number) from to (free m u)))
-        (EachTest (m.field_count s.number) 0 (is_nth_tested m ps) (λ k before. TestNth m ps k before k from to v.place) (has_tag (m.tested_tag s.number))) u v
-  TestAt m (Fields s fs) from to u v =
-      Behind (EmitsAll m (tag_test (m.tested_tag s.number) from to (free m u)))
-        (EachTest (m.field_count s.number) 0 (is_named_tested m s.number fs) (λ k before. TestNamed m s.number fs k before from to v.place) (has_tag (m.tested_tag s.number))) u v
+  pub test : Site → Pat → ℕ → ℕ → Piece
+  test m (Wildcard s) from to = puts_true m to
+  test m (Name s x y) from to = puts_true m to
+  test m (LitPat s x) from to = with_free m (λ other. does (i.Copy to from ∷ literal_test m x to other))
+  test m (Either s ps) from to = told_its_end (λ end. test_any m ps from to end)
+  test m (Constructor s x ps) from to = object_test m s.number (is_nth_tested m ps) (λ k before end. test_nth m ps k before k from to end) from to
+  test m (Fields s fs) from to = object_test m s.number (is_named_tested m s.number fs) (λ k before end. test_named m s.number fs k before from to end) from to
 
   -- the first alternative that fits ends it
-  pub TestAny : Site → Pats → ℕ → ℕ → ℕ → Stretch
-  TestAny m NoPat from to end u v = v ≡ u
-  TestAny m (AndPat p ps) from to end u v = (w x : Point) × TestAt m p from to u w × Emits m (i.JumpIf to end) w x × TestAny m ps from to end x v
+  pub test_any : Site → Pats → ℕ → ℕ → ℕ → Piece
+  test_any m NoPat from to end = nothing
+  test_any m (AndPat p ps) from to end = behind (test m p from to) (behind (does (i.JumpIf to end ∷ [])) (test_any m ps from to end))
 
-  -- the part at a place, where it is tested: its borrow ends behind the test
-  pub TestPart : Site → Pat → Bool → ℕ → ℕ → ℕ → ℕ → Stretch
-  TestPart m p before k from to end u v =
-      choose (is_tested m p)
-        (Behind (Further m before to end) (Within m (λ r. Behind (Emits m (i.LoadBorrow r from k)) (Behind (TestAt m p r to) (EmitsAll m (end_of_part m p r))))))
-        Skips u v
+  pub test_nth : Site → Pats → ℕ → Bool → ℕ → ℕ → ℕ → ℕ → Piece
+  test_nth m NoPat j before k from to end = nothing
+  test_nth m (AndPat p ps) zero before k from to end = part_test m p before k from to end (λ r. test m p r to)
+  test_nth m (AndPat p ps) (suc j) before k from to end = test_nth m ps j before k from to end
 
-  pub TestNth : Site → Pats → ℕ → Bool → ℕ → ℕ → ℕ → ℕ → Stretch
-  TestNth m NoPat j before k from to end u v = v ≡ u
-  TestNth m (AndPat p ps) zero before k from to end u v = TestPart m p before k from to end u v
-  TestNth m (AndPat p ps) (suc j) before k from to end u v = TestNth m ps j before k from to end u v
+  pub test_named : Site → ℕ → FieldPats → ℕ → Bool → ℕ → ℕ → ℕ → Piece
+  test_named m n NoField k before from to end = nothing
+  test_named m n (AndField x p fs) k before from to end =
+      choose (m.field_place n x == k) (part_test m p before k from to end (λ r. test m p r to)) (test_named m n fs k before from to end)
 
-  pub TestNamed : Site → ℕ → FieldPats → ℕ → Bool → ℕ → ℕ → ℕ → Stretch
-  TestNamed m n NoField k before from to end u v = v ≡ u
-  TestNamed m n (AndField x p fs) k before from to end u v =
-      choose (m.field_place n x == k) (TestPart m p before k from to end) (TestNamed m n fs k before from to end) u v
+-- it goes on only where a pattern fits, and elsewhere at a place; the register of the answer is free again
+abbrev pub only_where_fits : Site → Pat → ℕ → ℕ → Piece
+only_where_fits m p from otherwise = with_free m (λ to. behind (meanwhile m (λ r. test m p from to)) (only_where to otherwise))
 
--- it goes on only where a pattern fits, which is tested once more, and elsewhere at a place
-abbrev pub OnlyFits : Site → Pat → ℕ → ℕ → Stretch
-OnlyFits m p from otherwise u v = (w : Point) × Within m (λ to. TestAt m p from to) u w × OnlyWhere m (free m u) otherwise w v
+-- an alternative that isn't the last one: where it doesn't fit, the others are tried, and behind it all is at its end
+abbrev pub alternative : Site → Pat → ℕ → ℕ → Piece → Piece → Piece
+alternative m p from end chosen others =
+    told_the_place_between (λ otherwise. behind (only_where_fits m p from otherwise) (behind chosen (does (i.Jump end ∷ [])))) others
 
 -- a part is lent out of an object, and something is done with the borrow
-abbrev pub Lends : Site → ℕ → ℕ → (ℕ → Stretch) → Stretch
-Lends m k from a u v = Within m (λ r. Behind (Emits m (i.LoadBorrow r from k)) (a r)) u v
-
--- the same, and the borrow ends then
-abbrev pub ViewThrough : Site → Bool → ℕ → ℕ → (ℕ → Stretch) → Stretch
-ViewThrough m value k from a u v = Lends m k from (λ r. Behind (a r) (EmitsAll m (end_of_matched value r))) u v
+abbrev pub lends : Site → ℕ → ℕ → (ℕ → Piece) → Piece
+lends m k from a = meanwhile m (λ r. behind (does (i.LoadBorrow r from k ∷ [])) (a r))
 
 -- an object is given up, its fields go to registers that are held one above the other, and each is done with in order
-abbrev pub Apart : Site → ℕ → ℕ → (ℕ → ℕ → Stretch) → Stretch
-Apart m n object part u v =
-    (w x : Point)
-    × Emits m (i.TakeApart (registers_from (free m u) (m.field_count n)) object) (holding_only (u.held ++ held_from (free m u) (m.field_count n)) u) w
-    × EachPart (m.field_count n) 0 (λ k. part (free m u + k) k) w x
-    × (v ≡ holding_only u.held x)
+abbrev pub apart : Site → ℕ → ℕ → (ℕ → ℕ → Piece) → Piece
+apart m n object part =
+    with_free m
+      (λ first.
+        released
+          (behind (holds_from first (m.field_count n))
+            (behind (does (i.TakeApart (registers_from first (m.field_count n)) object ∷ []))
+              (each_part (m.field_count n) 0 (λ k. part (first + k) k)))))
+
+-- the parts of an object are bound below a borrow of it, which ends then
+abbrev pub below : Site → ℕ → ℕ → (ℕ → Piece) → Piece
+below m n from part = behind (each_part (m.field_count n) 0 part) (does (i.Drop from ∷ []))
+
+-- a part below a borrow: a name gets a borrow, and parts of it are bound below one
+abbrev pub part_below : Site → Pat → ℕ → ℕ → (ℕ → Piece) → Piece
+part_below m (Wildcard s) k from bind = nothing
+part_below m (LitPat s x) k from bind = nothing
+part_below m (Name s x y) k from bind = does (i.LoadBorrow (m.register (m.variable s.number)) from k ∷ [])
+part_below m (Constructor s x ps) k from bind = lends m k from bind
+part_below m (Either s ps) k from bind = lends m k from bind
+part_below m (Fields s fs) k from bind = lends m k from bind
+
+-- a field that no pattern names is dropped
+abbrev pub field_ends : Site → ℕ → ℕ → ℕ → Piece
+field_ends m n k from = does (drop_unless_value (m.is_value_field n k) from)
 
 -- The chosen arm takes an owned value apart: each part goes to its variable or ends, in the order of the fields. Below a
 -- borrow the variables get borrows, and then the borrow ends.
 abbrev mutual
-  pub BindAt : Site → Pat → Bool → ℕ → Stretch
-  BindAt m (Wildcard s) lent from u v = EmitsAll m (end_of_matched (m.is_value s.number) from) u v
-  BindAt m (LitPat s x) lent from u v = EmitsAll m (end_of_matched (m.is_value s.number) from) u v
-  BindAt m (Name s x y) lent from u v = Emits m (i.Move (m.register (m.variable s.number)) from) u v
-  BindAt m (Either s ps) lent from u v = BindFirst m ps lent from v.place u v
-  BindAt m (Constructor s x ps) lent from u v =
-      choose (lent || m.is_borrow s.number)
-        (Behind (EachPart (m.field_count s.number) 0 (λ k. BelowNth m ps k k from)) (Emits m (i.Drop from)))
-        (Apart m s.number from (λ r k. ApartNth m s.number ps k k r)) u v
-  BindAt m (Fields s fs) lent from u v =
-      choose (lent || m.is_borrow s.number)
-        (Behind (EachPart (m.field_count s.number) 0 (λ k. BelowNamed m s.number fs k from)) (Emits m (i.Drop from)))
-        (Apart m s.number from (λ r k. ApartNamed m s.number fs k r)) u v
+  pub bind : Site → Pat → Bool → ℕ → Piece
+  bind m (Wildcard s) lent from = does (drop_unless_value (m.is_value s.number) from)
+  bind m (LitPat s x) lent from = does (drop_unless_value (m.is_value s.number) from)
+  bind m (Name s x y) lent from = does (i.Move (m.register (m.variable s.number)) from ∷ [])
+  bind m (Either s ps) lent from = told_its_end (λ end. bind_first m ps lent from end)
+  bind m (Constructor s x ps) lent from =
+      choose (lent || m.is_borrow s.number) (below m s.number from (λ k. below_nth m ps k k from)) (apart m s.number from (λ r k. apart_nth m s.number ps k k r))
+  bind m (Fields s fs) lent from =
+      choose (lent || m.is_borrow s.number) (below m s.number from (λ k. below_named m s.number fs k from)) (apart m s.number from (λ r k. apart_named m s.number fs k r))
 
   -- by the first alternative that fits; the last one fits where none before it does
-  pub BindFirst : Site → Pats → Bool → ℕ → ℕ → Stretch
-  BindFirst m NoPat lent from end u v = v ≡ u
-  BindFirst m (AndPat p NoPat) lent from end u v = BindAt m p lent from u v
-  BindFirst m (AndPat p (AndPat q qs)) lent from end u v =
-      (w x y : Point) × OnlyFits m p from y.place u w × BindAt m p lent from w x × Emits m (i.Jump end) x y × BindFirst m (AndPat q qs) lent from end y v
+  pub bind_first : Site → Pats → Bool → ℕ → ℕ → Piece
+  bind_first m NoPat lent from end = nothing
+  bind_first m (AndPat p NoPat) lent from end = bind m p lent from
+  bind_first m (AndPat p (AndPat q qs)) lent from end = alternative m p from end (bind m p lent from) (bind_first m (AndPat q qs) lent from end)
 
-  -- a part that was taken out, and one that no pattern names
-  pub ApartNth : Site → ℕ → Pats → ℕ → ℕ → ℕ → Stretch
-  ApartNth m n NoPat j k from u v = EmitsAll m (end_of_matched (m.is_value_field n k) from) u v
-  ApartNth m n (AndPat p ps) zero k from u v = BindAt m p false from u v
-  ApartNth m n (AndPat p ps) (suc j) k from u v = ApartNth m n ps j k from u v
+  -- a part that was taken out
+  pub apart_nth : Site → ℕ → Pats → ℕ → ℕ → ℕ → Piece
+  apart_nth m n NoPat j k from = field_ends m n k from
+  apart_nth m n (AndPat p ps) zero k from = bind m p false from
+  apart_nth m n (AndPat p ps) (suc j) k from = apart_nth m n ps j k from
 
-  pub ApartNamed : Site → ℕ → FieldPats → ℕ → ℕ → Stretch
-  ApartNamed m n NoField k from u v = EmitsAll m (end_of_matched (m.is_value_field n k) from) u v
-  ApartNamed m n (AndField x p fs) k from u v = choose (m.field_place n x == k) (BindAt m p false from) (ApartNamed m n fs k from) u v
+  pub apart_named : Site → ℕ → FieldPats → ℕ → ℕ → Piece
+  apart_named m n NoField k from = field_ends m n k from
+  apart_named m n (AndField x p fs) k from = choose (m.field_place n x == k) (bind m p false from) (apart_named m n fs k from)
 
   -- a part below a borrow
-  pub BelowNth : Site → Pats → ℕ → ℕ → ℕ → Stretch
-  BelowNth m NoPat j k from u v = v ≡ u
-  BelowNth m (AndPat p ps) zero k from u v = BelowPart m p k from u v
-  BelowNth m (AndPat p ps) (suc j) k from u v = BelowNth m ps j k from u v
+  pub below_nth : Site → Pats → ℕ → ℕ → ℕ → Piece
+  below_nth m NoPat j k from = nothing
+  below_nth m (AndPat p ps) zero k from = part_below m p k from (λ r. bind m p true r)
+  below_nth m (AndPat p ps) (suc j) k from = below_nth m ps j k from
 
-  pub BelowNamed : Site → ℕ → FieldPats → ℕ → ℕ → Stretch
-  BelowNamed m n NoField k from u v = v ≡ u
-  BelowNamed m n (AndField x p fs) k from u v = choose (m.field_place n x == k) (BelowPart m p k from) (BelowNamed m n fs k from) u v
-
-  pub BelowPart : Site → Pat → ℕ → ℕ → Stretch
-  BelowPart m (Wildcard s) k from u v = v ≡ u
-  BelowPart m (LitPat s x) k from u v = v ≡ u
-  BelowPart m (Name s x y) k from u v = Emits m (i.LoadBorrow (m.register (m.variable s.number)) from k) u v
-  BelowPart m (Constructor s x ps) k from u v = Lends m k from (λ r. BindAt m (Constructor s x ps) true r) u v
-  BelowPart m (Either s ps) k from u v = Lends m k from (λ r. BindAt m (Either s ps) true r) u v
-  BelowPart m (Fields s fs) k from u v = Lends m k from (λ r. BindAt m (Fields s fs) true r) u v
+  pub below_named : Site → ℕ → FieldPats → ℕ → ℕ → Piece
+  below_named m n NoField k from = nothing
+  below_named m n (AndField x p fs) k from =
+      choose (m.field_place n x == k) (part_below m p k from (λ r. bind m p true r)) (below_named m n fs k from)
 
 -- whether a pattern binds a variable
 abbrev mutual
@@ -255,42 +250,39 @@ abbrev mutual
   any_field_binds m n NoField = false
   any_field_binds m n (AndField x p fs) = binds m n p || any_field_binds m n fs
 
+-- the part that binds a variable: a name is read as it is, and what stands deeper by a borrow that ends then
+abbrev pub part_view : Site → Pat → ℕ → ℕ → ℕ → (ℕ → Piece) → Piece
+part_view m (Name s x y) k from to view = does (i.LoadBorrow to from k ∷ [])
+part_view m p k from to view = lends m k from (λ r. behind (view r) (end_of_part m p r))
+
 -- What a pattern binds to a variable is read out of the value in a register into another one. The value stays.
 abbrev mutual
-  pub ViewAt : Site → ℕ → Pat → ℕ → ℕ → Stretch
-  ViewAt m n (Wildcard s) from to u v = v ≡ u
-  ViewAt m n (LitPat s x) from to u v = v ≡ u
-  ViewAt m n (Name s x y) from to u v = Emits m (i.Borrow to from) u v
-  ViewAt m n (Either s ps) from to u v = ViewFirst m n ps from to v.place u v
-  ViewAt m n (Constructor s x ps) from to u v = ViewNth m n ps 0 from to u v
-  ViewAt m n (Fields s fs) from to u v = ViewNamed m n s.number fs from to u v
+  pub view : Site → ℕ → Pat → ℕ → ℕ → Piece
+  view m n (Wildcard s) from to = nothing
+  view m n (LitPat s x) from to = nothing
+  view m n (Name s x y) from to = does (i.Borrow to from ∷ [])
+  view m n (Either s ps) from to = told_its_end (λ end. view_first m n ps from to end)
+  view m n (Constructor s x ps) from to = view_nth m n ps 0 from to
+  view m n (Fields s fs) from to = view_named m n s.number fs from to
 
-  pub ViewFirst : Site → ℕ → Pats → ℕ → ℕ → ℕ → Stretch
-  ViewFirst m n NoPat from to end u v = v ≡ u
-  ViewFirst m n (AndPat p NoPat) from to end u v = ViewAt m n p from to u v
-  ViewFirst m n (AndPat p (AndPat q qs)) from to end u v =
-      (w x y : Point) × OnlyFits m p from y.place u w × ViewAt m n p from to w x × Emits m (i.Jump end) x y × ViewFirst m n (AndPat q qs) from to end y v
+  pub view_first : Site → ℕ → Pats → ℕ → ℕ → ℕ → Piece
+  view_first m n NoPat from to end = nothing
+  view_first m n (AndPat p NoPat) from to end = view m n p from to
+  view_first m n (AndPat p (AndPat q qs)) from to end = alternative m p from end (view m n p from to) (view_first m n (AndPat q qs) from to end)
 
-  pub ViewNth : Site → ℕ → Pats → ℕ → ℕ → ℕ → Stretch
-  ViewNth m n NoPat k from to u v = v ≡ u
-  ViewNth m n (AndPat p ps) k from to u v = choose (binds m n p) (ViewPart m n p k from to) (ViewNth m n ps (suc k) from to) u v
+  pub view_nth : Site → ℕ → Pats → ℕ → ℕ → ℕ → Piece
+  view_nth m n NoPat k from to = nothing
+  view_nth m n (AndPat p ps) k from to = choose (binds m n p) (part_view m p k from to (λ r. view m n p r to)) (view_nth m n ps (suc k) from to)
 
-  pub ViewNamed : Site → ℕ → ℕ → FieldPats → ℕ → ℕ → Stretch
-  ViewNamed m n j NoField from to u v = v ≡ u
-  ViewNamed m n j (AndField x p fs) from to u v = choose (binds m n p) (ViewPart m n p (m.field_place j x) from to) (ViewNamed m n j fs from to) u v
-
-  pub ViewPart : Site → ℕ → Pat → ℕ → ℕ → ℕ → Stretch
-  ViewPart m n (Wildcard s) k from to u v = v ≡ u
-  ViewPart m n (LitPat s x) k from to u v = v ≡ u
-  ViewPart m n (Name s x y) k from to u v = Emits m (i.LoadBorrow to from k) u v
-  ViewPart m n (Constructor s x ps) k from to u v = ViewThrough m (m.is_value s.number) k from (λ r. ViewAt m n (Constructor s x ps) r to) u v
-  ViewPart m n (Either s ps) k from to u v = ViewThrough m (m.is_value s.number) k from (λ r. ViewAt m n (Either s ps) r to) u v
-  ViewPart m n (Fields s fs) k from to u v = ViewThrough m (m.is_value s.number) k from (λ r. ViewAt m n (Fields s fs) r to) u v
+  pub view_named : Site → ℕ → ℕ → FieldPats → ℕ → ℕ → Piece
+  view_named m n j NoField from to = nothing
+  view_named m n j (AndField x p fs) from to =
+      choose (binds m n p) (part_view m p (m.field_place j x) from to (λ r. view m n p r to)) (view_named m n j fs from to)
 
 -- the test of an arm, which leaves whether it fits in the free register
-abbrev pub Tests : Site → Pat → ℕ → Stretch
-Tests m p from u v = Within m (λ to. TestAt m p from to) u v
+abbrev pub tests : Site → Pat → ℕ → Piece
+tests m p from = meanwhile m (λ to. test m p from to)
 
--- what a guard reads of the value that is matched
-abbrev pub Views : Site → ℕ → Pat → ℕ → Piece
-Views m n p from g u v = (g ≡ given.At (free m u)) × Within m (λ to. ViewAt m n p from to) u v
+-- what a guard reads of the value that is matched, into the free register
+abbrev pub views : Site → ℕ → Pat → ℕ → Piece
+views m n p from = with_free m (λ to. behind (meanwhile m (λ r. view m n p from to)) (giving (given.At to)))
