@@ -1,5 +1,5 @@
 -- Pieces of a code: what stands at a place, what it gives, and what is held behind it. Nothing here knows a form.
-use Rattle.std.specs.Prelude.{◌+◌, ◌++◌, ◌∷◌, ℕ, zero, suc, Bool, true, false, List, [], Option, None, Some, length, take, drop, if◌then◌else◌}
+use Rattle.std.specs.Prelude.{◌+◌, ◌++◌, ◌∷◌, ◌||◌, ℕ, zero, suc, Bool, true, false, List, [], Option, None, Some, length, take, drop, if◌then◌else◌}
 use Rattle.ink_code.specs.declared.instr.Instr.{Instr}
 use Rattle.ink_code.specs.declared.instr.Instr.TheVariants as i
 use Rattle.ink_findings.specs.declared.typed.Target.{Target}
@@ -58,11 +58,14 @@ pub record Point : Type 0 where
   pub place : ℕ
   pub held : List Held
 
--- what stands at a place: what it gives, its instructions, and what is held behind it
+-- What stands at a place: what it gives, its instructions, what is held behind it, and whether it has jumps behind the loop
+-- that is round it, and jumps to what is tried next where a test fails.
 pub record Made : Type 0 where
   pub given : Given
   pub code : List Instr
   pub held : List Held
+  pub breaks : Bool
+  pub fails : Bool
 
 -- a piece of code, by the point where it stands
 abbrev pub Piece : Type 0
@@ -72,15 +75,24 @@ Piece = Point → Made
 abbrev pub point_behind : Point → Made → Point
 point_behind u x = record { place = u.place + length x.code; held = x.held }
 
-abbrev pub with_code_before : List Instr → Made → Made
-with_code_before xs x = record { given = x.given; code = xs ++ x.code; held = x.held }
+-- instructions, behind which this is given and held
+abbrev pub made : Given → List Instr → List Held → Made
+made g xs held = record { given = g; code = xs; held = held; breaks = false; fails = false }
 
-abbrev pub continued : Point → Made → (Given → Piece) → Made
-continued u x rest = with_code_before x.code (rest x.given (point_behind u x))
+-- one behind the other
+abbrev pub joined : Made → Made → Made
+joined x y = record { given = y.given; code = x.code ++ y.code; held = y.held; breaks = x.breaks || y.breaks; fails = x.fails || y.fails }
+
+abbrev pub continued : Point → Made → (Bool → Given → Piece) → Made
+continued u x rest = joined x (rest x.fails x.given (point_behind u x))
+
+-- one piece, and then what comes of whether it may fail and of what it gives
+abbrev pub next_by_failure : Piece → (Bool → Given → Piece) → Piece
+next_by_failure a rest u = continued u (a u) rest
 
 -- one piece, and then what comes of what it gives
 abbrev pub next : Piece → (Given → Piece) → Piece
-next a rest u = continued u (a u) rest
+next a rest = next_by_failure a (λ failed g. rest g)
 
 -- one piece and then another
 abbrev pub behind : Piece → Piece → Piece
@@ -100,18 +112,18 @@ at_its_place a u = a u.place u
 
 -- nothing: no code, and this given
 abbrev pub giving : Given → Piece
-giving g u = record { given = g; code = []; held = u.held }
+giving g u = made g [] u.held
 
 abbrev pub nothing : Piece
 nothing = giving given.Nil
 
 -- instructions, which give nil
 abbrev pub does : List Instr → Piece
-does xs u = record { given = given.Nil; code = xs; held = u.held }
+does xs u = made given.Nil xs u.held
 
 -- instructions behind which nothing goes on
 abbrev pub leaves : List Instr → Piece
-leaves xs u = record { given = given.Ends; code = xs; held = u.held }
+leaves xs u = made given.Ends xs u.held
 
 -- the first register above all that are held
 abbrev pub free : Site → Point → ℕ
@@ -122,14 +134,14 @@ with_free m a u = a (free m u) u
 
 -- instructions that put a value into the free register
 abbrev pub puts_all : Site → (ℕ → List Instr) → Piece
-puts_all m xs = with_free m (λ r u. record { given = given.At r; code = xs r; held = u.held })
+puts_all m xs = with_free m (λ r u. made (given.At r) (xs r) u.held)
 
 abbrev pub puts : Site → (ℕ → Instr) → Piece
 puts m x = puts_all m (λ r. x r ∷ [])
 
 -- a register is held from here on
 abbrev pub holds : Holding → ℕ → Piece
-holds why r u = record { given = given.At r; code = []; held = u.held ++ record { register = r; holding = why } ∷ [] }
+holds why r u = made (given.At r) [] (u.held ++ record { register = r; holding = why } ∷ [])
 
 -- how many registers are held where a piece stands
 abbrev pub from_mark : (ℕ → Piece) → Piece
@@ -137,7 +149,7 @@ from_mark a u = a (length u.held) u
 
 -- no more is held than the first so many
 abbrev pub releases : ℕ → Piece
-releases n u = record { given = given.Nil; code = []; held = take n u.held }
+releases n u = made given.Nil [] (take n u.held)
 
 -- a piece behind which no more is held than before it
 abbrev pub released : Piece → Piece
@@ -177,6 +189,17 @@ ended n (given.At r) = behind (ends_held n) (giving (given.At r))
 
 abbrev pub stated : Piece → Piece
 stated a = from_mark (λ n. next a (ended n))
+
+-- behind what ends there is nothing
+abbrev pub unless_ended : Given → Piece → Piece
+unless_ended given.Ends a = giving given.Ends
+unless_ended given.Nil a = a
+unless_ended (given.At r) a = a
+
+abbrev pub goes_on : Given → Bool
+goes_on given.Ends = false
+goes_on given.Nil = true
+goes_on (given.At r) = true
 
 -- one of two, by a test
 abbrev pub choose : Bool → Piece → Piece → Piece
