@@ -1,5 +1,6 @@
 //! The methods of a code.
 ghost use Rattle.std.specs.Prelude.{◌≡◌, ◌+◌, ◌++◌, ◌∷◌, [], IfOk, OnOk};
+ghost use Rattle.ink_assemble.specs.Certain.{AskOnlyWhereUncertain};
 ghost use Rattle.ink_plan.specs.Plans.{IsCertainBetween};
 ghost use Rattle.ink_ranges.specs.Ranges.{HasNoTests};
 
@@ -59,7 +60,9 @@ pub(crate) fn methods_of<'a>(
     context: Context<'a>,
     plan: &'a DropPlan<'a>,
     entries: &[MethodEntry],
-) -> Result<Items<Method>, LowerFault> {
+) -> Result<Items<Method>, LowerFault>
+    ensures { IfOk result (λ methods. AskOnlyWhereUncertain plan.now.exits plan.now.checked.now 0 entries.now methods) }
+{
     let mut methods = Vec::new(context.alloc);
     let mut number = 0;
     let mut first = 0;

@@ -1,5 +1,6 @@
 //! The whole.
 ghost use Rattle.std.specs.Prelude.{IfOk};
+ghost use Rattle.ink_assemble.specs.Certain.{TestsOnlyWhereUncertain};
 ghost use Rattle.ink_ranges.specs.Ranges.{IsWithin};
 
 use crate::constants::constants_of;
@@ -16,7 +17,9 @@ use ink_ranges::is_within;
 use std::alloc::Global;
 
 /// The code of a module that begins where it says.
-fn assemble(alloc: Global, checked: &Checked, entry: Entry) -> Result<Code, LowerFault> {
+fn assemble(alloc: Global, checked: &Checked, entry: Entry) -> Result<Code, LowerFault>
+    ensures { IfOk result (λ code. TestsOnlyWhereUncertain checked.now code.methods) }
+{
     let plan = drop_plan(alloc, checked)?;
     let registers = Registers::of_module(alloc, checked)?;
     let (constants, values) = constants_of(alloc, checked)?;
@@ -43,6 +46,7 @@ fn assemble(alloc: Global, checked: &Checked, entry: Entry) -> Result<Code, Lowe
 /// accept comes to that.
 pub fn lower(alloc: Global, checked: &Checked) -> Result<Code, LowerFault>
     ensures within { IfOk result IsWithin }
+    ensures certain { IfOk result (λ code. TestsOnlyWhereUncertain checked.now code.methods) }
 {
     let Some(entry) = entry_of(checked) else {
         return Err(LowerFault::Unsound(Unsound::Ranges));

@@ -1,0 +1,5 @@
+pub mod Pieces
+pub mod PatternCode
+pub mod Terms
+pub mod FormCode
+pub mod MethodCode
