@@ -1,7 +1,7 @@
 -- What the definitions come to for methods of tests/lowered/, instruction by instruction. The trees are those of the methods,
 -- with the numbers of nodes in an order of their own; names and bytes are left out. tests/layout sees that the program
 -- lists each method so.
-use Rattle.std.proofs.Common.{◌≡◌, ◌+◌, ◌∷◌, ◌==◌, ℕ, Bool, true, false, List, [], Option, None, Some, refl}
+use Rattle.std.proofs.Common.{◌≡◌, ◌+◌, ◌∷◌, ◌==◌, ℕ, true, false, [], None, Some, refl}
 use Rattle.std.specs.Prelude.{◌&&◌, if◌then◌else◌}
 use Rattle.ink_base.specs.declared.ident.BorrowKind.TheVariants as borrow
 use Rattle.ink_code.specs.declared.instr.Instr.TheVariants as i
@@ -33,29 +33,29 @@ constants integers (literal.Text k) = 3 + integers + k
 -- Fields, built-in methods, and a choice by a condition: `longer` of tests/lowered/paths.inko
 abbrev reads_and_a_choice_site : Site
 reads_and_a_choice_site =
-    record
-    { variables = 2
-    ; register = λ n. if n == 1 then 0 else (if n == 2 then 1 else (0))
-    ; variable = λ n. if n == 3 then 1 else (if n == 6 then 2 else (if n == 10 then 1 else (if n == 15 then 2 else (0))))
-    ; is_value = λ n. if n == 4 then true else (if n == 5 then true else (if n == 7 then true else (if n == 8 then true else (if n == 9 then true else (if n == 11 then true else (if n == 12 then true else (if n == 16 then true else (if n == 17 then true else (if n == 20 then true else (if n == 21 then true else (if n == 22 then true else (false))))))))))))
-    ; is_borrow = λ n. if n == 1 then true else (if n == 2 then true else (if n == 3 then true else (if n == 6 then true else (if n == 10 then true else (if n == 15 then true else (false))))))
-    ; is_nil = λ n. false
-    ; call = λ n. if n == 5 then (Some (target.Row 24)) else (if n == 8 then (Some (target.Row 24)) else (if n == 9 then (Some (target.Row 9)) else (if n == 12 then (Some (target.Row 24)) else (if n == 17 then (Some (target.Row 24)) else (None)))))
-    ; takes = λ n. false
-    ; is_message = λ n. false
-    ; place = λ n. 0
-    ; kind = λ n. 0
-    ; tag = λ n. 0
-    ; order = λ n. []
-    ; is_process = λ n. false
-    ; field_count = λ n. 0
-    ; field_place = λ n x. 0
-    ; is_value_field = λ n k. false
-    ; tested_tag = λ n. None
-    ; constant = constants 1
-    ; ends = λ n. if n == 25 then (record { variable = 2; how = how.Sure } ∷ record { variable = 1; how = how.Sure } ∷ []) else ([])
-    ; old = λ n v. None
-    ; is_lent = false
+    record {
+      variables = 2;
+      register = λ n. if n == 1 then 0 else (if n == 2 then 1 else (0));
+      variable = λ n. if n == 3 then 1 else (if n == 6 then 2 else (if n == 10 then 1 else (if n == 15 then 2 else (0))));
+      is_value = λ n. if n == 4 then true else (if n == 5 then true else (if n == 7 then true else (if n == 8 then true else (if n == 9 then true else (if n == 11 then true else (if n == 12 then true else (if n == 16 then true else (if n == 17 then true else (if n == 20 then true else (if n == 21 then true else (if n == 22 then true else (false))))))))))));
+      is_borrow = λ n. if n == 1 then true else (if n == 2 then true else (if n == 3 then true else (if n == 6 then true else (if n == 10 then true else (if n == 15 then true else (false))))));
+      is_nil = λ n. false;
+      call = λ n. if n == 5 then (Some (target.Row 24)) else (if n == 8 then (Some (target.Row 24)) else (if n == 9 then (Some (target.Row 9)) else (if n == 12 then (Some (target.Row 24)) else (if n == 17 then (Some (target.Row 24)) else (None)))));
+      takes = λ n. false;
+      is_message = λ n. false;
+      place = λ n. 0;
+      kind = λ n. 0;
+      tag = λ n. 0;
+      order = λ n. [];
+      is_process = λ n. false;
+      field_count = λ n. 0;
+      field_place = λ n x. 0;
+      is_value_field = λ n k. false;
+      tested_tag = λ n. None;
+      constant = constants 1;
+      ends = λ n. if n == 25 then (record { variable = 2; how = how.Sure } ∷ record { variable = 1; how = how.Sure } ∷ []) else ([]);
+      old = λ n v. None;
+      is_lent = false;
     }
 
 abbrev reads_and_a_choice_tree : MethodTree
@@ -67,29 +67,29 @@ reads_and_a_choice = refl
 -- A declaration, new objects, borrows, and a temporary that ends with its statement: `Main.main` of tests/lowered/paths.inko
 abbrev borrows_site : Site
 borrows_site =
-    record
-    { variables = 2
-    ; register = λ n. if n == 1 then 1 else (0)
-    ; variable = λ n. if n == 4 then 1 else (0)
-    ; is_value = λ n. if n == 2 then true else (if n == 6 then true else (if n == 9 then true else (if n == 10 then true else (false))))
-    ; is_borrow = λ n. if n == 5 then true else (if n == 8 then true else (false))
-    ; is_nil = λ n. if n == 1 then false else (if n == 10 then true else (false))
-    ; call = λ n. if n == 9 then (Some (target.Method 0)) else (None)
-    ; takes = λ n. false
-    ; is_message = λ n. false
-    ; place = λ n. 0
-    ; kind = λ n. if n == 3 then 13 else (if n == 7 then 13 else (0))
-    ; tag = λ n. if n == 3 then 0 else (if n == 7 then 0 else (0))
-    ; order = λ n. if n == 3 then (0 ∷ []) else (if n == 7 then (0 ∷ []) else ([]))
-    ; is_process = λ n. false
-    ; field_count = λ n. 0
-    ; field_place = λ n x. 0
-    ; is_value_field = λ n k. false
-    ; tested_tag = λ n. None
-    ; constant = constants 1
-    ; ends = λ n. if n == 12 then (record { variable = 1; how = how.Sure } ∷ []) else ([])
-    ; old = λ n v. None
-    ; is_lent = true
+    record {
+      variables = 2;
+      register = λ n. if n == 1 then 1 else (0);
+      variable = λ n. if n == 4 then 1 else (0);
+      is_value = λ n. if n == 2 then true else (if n == 6 then true else (if n == 9 then true else (if n == 10 then true else (false))));
+      is_borrow = λ n. if n == 5 then true else (if n == 8 then true else (false));
+      is_nil = λ n. if n == 1 then false else (if n == 10 then true else (false));
+      call = λ n. if n == 9 then (Some (target.Method 0)) else (None);
+      takes = λ n. false;
+      is_message = λ n. false;
+      place = λ n. 0;
+      kind = λ n. if n == 3 then 13 else (if n == 7 then 13 else (0));
+      tag = λ n. if n == 3 then 0 else (if n == 7 then 0 else (0));
+      order = λ n. if n == 3 then (0 ∷ []) else (if n == 7 then (0 ∷ []) else ([]));
+      is_process = λ n. false;
+      field_count = λ n. 0;
+      field_place = λ n x. 0;
+      is_value_field = λ n k. false;
+      tested_tag = λ n. None;
+      constant = constants 1;
+      ends = λ n. if n == 12 then (record { variable = 1; how = how.Sure } ∷ []) else ([]);
+      old = λ n v. None;
+      is_lent = true;
     }
 
 abbrev borrows_tree : MethodTree
@@ -101,29 +101,29 @@ borrows = refl
 -- A value is copied, and a parameter ends with the method: `both` of tests/lowered/jumps.inko
 abbrev a_copy_site : Site
 a_copy_site =
-    record
-    { variables = 2
-    ; register = λ n. if n == 1 then 0 else (if n == 2 then 1 else (0))
-    ; variable = λ n. if n == 3 then 2 else (0)
-    ; is_value = λ n. if n == 2 then true else (if n == 3 then true else (false))
-    ; is_borrow = λ n. false
-    ; is_nil = λ n. false
-    ; call = λ n. None
-    ; takes = λ n. false
-    ; is_message = λ n. false
-    ; place = λ n. 0
-    ; kind = λ n. 0
-    ; tag = λ n. 0
-    ; order = λ n. []
-    ; is_process = λ n. false
-    ; field_count = λ n. 0
-    ; field_place = λ n x. 0
-    ; is_value_field = λ n k. false
-    ; tested_tag = λ n. None
-    ; constant = constants 5
-    ; ends = λ n. if n == 6 then (record { variable = 2; how = how.Sure } ∷ record { variable = 1; how = how.Sure } ∷ []) else ([])
-    ; old = λ n v. None
-    ; is_lent = false
+    record {
+      variables = 2;
+      register = λ n. if n == 1 then 0 else (if n == 2 then 1 else (0));
+      variable = λ n. if n == 3 then 2 else (0);
+      is_value = λ n. if n == 2 then true else (if n == 3 then true else (false));
+      is_borrow = λ n. false;
+      is_nil = λ n. false;
+      call = λ n. None;
+      takes = λ n. false;
+      is_message = λ n. false;
+      place = λ n. 0;
+      kind = λ n. 0;
+      tag = λ n. 0;
+      order = λ n. [];
+      is_process = λ n. false;
+      field_count = λ n. 0;
+      field_place = λ n x. 0;
+      is_value_field = λ n k. false;
+      tested_tag = λ n. None;
+      constant = constants 5;
+      ends = λ n. if n == 6 then (record { variable = 2; how = how.Sure } ∷ record { variable = 1; how = how.Sure } ∷ []) else ([]);
+      old = λ n v. None;
+      is_lent = false;
     }
 
 abbrev a_copy_tree : MethodTree
@@ -135,29 +135,29 @@ a_copy = refl
 -- A return amid operands: `early` of tests/lowered/jumps.inko
 abbrev a_return_site : Site
 a_return_site =
-    record
-    { variables = 2
-    ; register = λ n. if n == 1 then 0 else (if n == 2 then 1 else (0))
-    ; variable = λ n. if n == 7 then 1 else (if n == 16 then 2 else (0))
-    ; is_value = λ n. if n == 1 then true else (if n == 3 then true else (if n == 5 then true else (if n == 7 then true else (if n == 10 then true else (if n == 13 then true else (if n == 14 then true else (if n == 15 then true else (if n == 17 then true else (false)))))))))
-    ; is_borrow = λ n. false
-    ; is_nil = λ n. if n == 2 then false else (false)
-    ; call = λ n. if n == 17 then (Some (target.Method 0)) else (None)
-    ; takes = λ n. false
-    ; is_message = λ n. false
-    ; place = λ n. 0
-    ; kind = λ n. if n == 4 then 13 else (0)
-    ; tag = λ n. if n == 4 then 0 else (0)
-    ; order = λ n. if n == 4 then (0 ∷ []) else ([])
-    ; is_process = λ n. false
-    ; field_count = λ n. 0
-    ; field_place = λ n x. 0
-    ; is_value_field = λ n k. false
-    ; tested_tag = λ n. None
-    ; constant = constants 4
-    ; ends = λ n. if n == 20 then (record { variable = 1; how = how.Sure } ∷ []) else ([])
-    ; old = λ n v. None
-    ; is_lent = false
+    record {
+      variables = 2;
+      register = λ n. if n == 1 then 0 else (if n == 2 then 1 else (0));
+      variable = λ n. if n == 7 then 1 else (if n == 16 then 2 else (0));
+      is_value = λ n. if n == 1 then true else (if n == 3 then true else (if n == 5 then true else (if n == 7 then true else (if n == 10 then true else (if n == 13 then true else (if n == 14 then true else (if n == 15 then true else (if n == 17 then true else (false)))))))));
+      is_borrow = λ n. false;
+      is_nil = λ n. if n == 2 then false else (false);
+      call = λ n. if n == 17 then (Some (target.Method 0)) else (None);
+      takes = λ n. false;
+      is_message = λ n. false;
+      place = λ n. 0;
+      kind = λ n. if n == 4 then 13 else (0);
+      tag = λ n. if n == 4 then 0 else (0);
+      order = λ n. if n == 4 then (0 ∷ []) else ([]);
+      is_process = λ n. false;
+      field_count = λ n. 0;
+      field_place = λ n x. 0;
+      is_value_field = λ n k. false;
+      tested_tag = λ n. None;
+      constant = constants 4;
+      ends = λ n. if n == 20 then (record { variable = 1; how = how.Sure } ∷ []) else ([]);
+      old = λ n v. None;
+      is_lent = false;
     }
 
 abbrev a_return_tree : MethodTree
@@ -169,29 +169,29 @@ a_return = refl
 -- A loop, a break out of it, and its next turn: `loops` of tests/lowered/jumps.inko
 abbrev a_loop_site : Site
 a_loop_site =
-    record
-    { variables = 3
-    ; register = λ n. if n == 1 then 0 else (if n == 2 then 1 else (if n == 3 then 2 else (0)))
-    ; variable = λ n. if n == 7 then 2 else (if n == 9 then 2 else (if n == 13 then 1 else (if n == 14 then 2 else (if n == 24 then 2 else (if n == 35 then 3 else (if n == 36 then 2 else (if n == 40 then 2 else (if n == 41 then 2 else (if n == 46 then 2 else (if n == 47 then 1 else (if n == 67 then 2 else (0))))))))))))
-    ; is_value = λ n. if n == 1 then true else (if n == 2 then true else (if n == 4 then true else (if n == 5 then true else (if n == 7 then true else (if n == 8 then true else (if n == 9 then true else (if n == 10 then true else (if n == 11 then true else (if n == 13 then true else (if n == 14 then true else (if n == 15 then true else (if n == 19 then true else (if n == 20 then true else (if n == 21 then true else (if n == 22 then true else (if n == 24 then true else (if n == 25 then true else (if n == 26 then true else (if n == 30 then true else (if n == 31 then true else (if n == 32 then true else (if n == 33 then true else (if n == 36 then true else (if n == 37 then true else (if n == 38 then true else (if n == 40 then true else (if n == 41 then true else (if n == 42 then true else (if n == 43 then true else (if n == 44 then true else (if n == 46 then true else (if n == 47 then true else (if n == 48 then true else (if n == 52 then true else (if n == 53 then true else (if n == 54 then true else (if n == 55 then true else (if n == 58 then true else (if n == 59 then true else (if n == 62 then true else (if n == 63 then true else (if n == 64 then true else (if n == 65 then true else (if n == 67 then true else (false)))))))))))))))))))))))))))))))))))))))))))))
-    ; is_borrow = λ n. false
-    ; is_nil = λ n. if n == 2 then false else (if n == 3 then false else (if n == 11 then true else (if n == 19 then true else (if n == 22 then true else (if n == 30 then true else (if n == 33 then true else (if n == 38 then true else (if n == 44 then true else (if n == 52 then true else (if n == 55 then true else (if n == 59 then true else (if n == 64 then true else (if n == 65 then true else (false))))))))))))))
-    ; call = λ n. if n == 10 then (Some (target.Row 0)) else (if n == 15 then (Some (target.Row 5)) else (if n == 26 then (Some (target.Row 5)) else (if n == 37 then (Some (target.Method 0)) else (if n == 43 then (Some (target.Row 0)) else (if n == 48 then (Some (target.Row 5)) else (None))))))
-    ; takes = λ n. false
-    ; is_message = λ n. false
-    ; place = λ n. 0
-    ; kind = λ n. if n == 6 then 13 else (0)
-    ; tag = λ n. if n == 6 then 0 else (0)
-    ; order = λ n. if n == 6 then (0 ∷ []) else ([])
-    ; is_process = λ n. false
-    ; field_count = λ n. 0
-    ; field_place = λ n x. 0
-    ; is_value_field = λ n k. false
-    ; tested_tag = λ n. None
-    ; constant = constants 4
-    ; ends = λ n. if n == 16 then (record { variable = 3; how = how.Sure } ∷ []) else (if n == 27 then (record { variable = 3; how = how.Sure } ∷ []) else (if n == 49 then (record { variable = 3; how = how.Sure } ∷ []) else (if n == 70 then (record { variable = 2; how = how.Sure } ∷ record { variable = 1; how = how.Sure } ∷ []) else ([]))))
-    ; old = λ n v. None
-    ; is_lent = false
+    record {
+      variables = 3;
+      register = λ n. if n == 1 then 0 else (if n == 2 then 1 else (if n == 3 then 2 else (0)));
+      variable = λ n. if n == 7 then 2 else (if n == 9 then 2 else (if n == 13 then 1 else (if n == 14 then 2 else (if n == 24 then 2 else (if n == 35 then 3 else (if n == 36 then 2 else (if n == 40 then 2 else (if n == 41 then 2 else (if n == 46 then 2 else (if n == 47 then 1 else (if n == 67 then 2 else (0))))))))))));
+      is_value = λ n. if n == 1 then true else (if n == 2 then true else (if n == 4 then true else (if n == 5 then true else (if n == 7 then true else (if n == 8 then true else (if n == 9 then true else (if n == 10 then true else (if n == 11 then true else (if n == 13 then true else (if n == 14 then true else (if n == 15 then true else (if n == 19 then true else (if n == 20 then true else (if n == 21 then true else (if n == 22 then true else (if n == 24 then true else (if n == 25 then true else (if n == 26 then true else (if n == 30 then true else (if n == 31 then true else (if n == 32 then true else (if n == 33 then true else (if n == 36 then true else (if n == 37 then true else (if n == 38 then true else (if n == 40 then true else (if n == 41 then true else (if n == 42 then true else (if n == 43 then true else (if n == 44 then true else (if n == 46 then true else (if n == 47 then true else (if n == 48 then true else (if n == 52 then true else (if n == 53 then true else (if n == 54 then true else (if n == 55 then true else (if n == 58 then true else (if n == 59 then true else (if n == 62 then true else (if n == 63 then true else (if n == 64 then true else (if n == 65 then true else (if n == 67 then true else (false)))))))))))))))))))))))))))))))))))))))))))));
+      is_borrow = λ n. false;
+      is_nil = λ n. if n == 2 then false else (if n == 3 then false else (if n == 11 then true else (if n == 19 then true else (if n == 22 then true else (if n == 30 then true else (if n == 33 then true else (if n == 38 then true else (if n == 44 then true else (if n == 52 then true else (if n == 55 then true else (if n == 59 then true else (if n == 64 then true else (if n == 65 then true else (false))))))))))))));
+      call = λ n. if n == 10 then (Some (target.Row 0)) else (if n == 15 then (Some (target.Row 5)) else (if n == 26 then (Some (target.Row 5)) else (if n == 37 then (Some (target.Method 0)) else (if n == 43 then (Some (target.Row 0)) else (if n == 48 then (Some (target.Row 5)) else (None))))));
+      takes = λ n. false;
+      is_message = λ n. false;
+      place = λ n. 0;
+      kind = λ n. if n == 6 then 13 else (0);
+      tag = λ n. if n == 6 then 0 else (0);
+      order = λ n. if n == 6 then (0 ∷ []) else ([]);
+      is_process = λ n. false;
+      field_count = λ n. 0;
+      field_place = λ n x. 0;
+      is_value_field = λ n k. false;
+      tested_tag = λ n. None;
+      constant = constants 4;
+      ends = λ n. if n == 16 then (record { variable = 3; how = how.Sure } ∷ []) else (if n == 27 then (record { variable = 3; how = how.Sure } ∷ []) else (if n == 49 then (record { variable = 3; how = how.Sure } ∷ []) else (if n == 70 then (record { variable = 2; how = how.Sure } ∷ record { variable = 1; how = how.Sure } ∷ []) else ([]))));
+      old = λ n v. None;
+      is_lent = false;
     }
 
 abbrev a_loop_tree : MethodTree
@@ -203,29 +203,29 @@ a_loop = refl
 -- A `try`, whose error is returned: `tried` of tests/lowered/jumps.inko
 abbrev a_try_site : Site
 a_try_site =
-    record
-    { variables = 3
-    ; register = λ n. if n == 1 then 0 else (if n == 2 then 1 else (if n == 3 then 2 else (0)))
-    ; variable = λ n. if n == 2 then 2 else (if n == 3 then 3 else (if n == 6 then 2 else (if n == 7 then 3 else (if n == 8 then 1 else (0)))))
-    ; is_value = λ n. if n == 2 then true else (if n == 3 then true else (if n == 6 then true else (if n == 7 then true else (if n == 11 then true else (if n == 12 then true else (if n == 13 then true else (false)))))))
-    ; is_borrow = λ n. false
-    ; is_nil = λ n. false
-    ; call = λ n. if n == 13 then (Some (target.Row 0)) else (None)
-    ; takes = λ n. false
-    ; is_message = λ n. false
-    ; place = λ n. 0
-    ; kind = λ n. if n == 9 then 6 else (if n == 14 then 6 else (0))
-    ; tag = λ n. if n == 9 then 1 else (if n == 14 then 0 else (0))
-    ; order = λ n. if n == 9 then (0 ∷ []) else (if n == 14 then (0 ∷ []) else ([]))
-    ; is_process = λ n. false
-    ; field_count = λ n. if n == 4 then 1 else (if n == 5 then 1 else (0))
-    ; field_place = λ n x. 0
-    ; is_value_field = λ n k. false
-    ; tested_tag = λ n. if n == 4 then (Some 8) else (if n == 5 then (Some 9) else (None))
-    ; constant = constants 5
-    ; ends = λ n. []
-    ; old = λ n v. None
-    ; is_lent = false
+    record {
+      variables = 3;
+      register = λ n. if n == 1 then 0 else (if n == 2 then 1 else (if n == 3 then 2 else (0)));
+      variable = λ n. if n == 2 then 2 else (if n == 3 then 3 else (if n == 6 then 2 else (if n == 7 then 3 else (if n == 8 then 1 else (0)))));
+      is_value = λ n. if n == 2 then true else (if n == 3 then true else (if n == 6 then true else (if n == 7 then true else (if n == 11 then true else (if n == 12 then true else (if n == 13 then true else (false)))))));
+      is_borrow = λ n. false;
+      is_nil = λ n. false;
+      call = λ n. if n == 13 then (Some (target.Row 0)) else (None);
+      takes = λ n. false;
+      is_message = λ n. false;
+      place = λ n. 0;
+      kind = λ n. if n == 9 then 6 else (if n == 14 then 6 else (0));
+      tag = λ n. if n == 9 then 1 else (if n == 14 then 0 else (0));
+      order = λ n. if n == 9 then (0 ∷ []) else (if n == 14 then (0 ∷ []) else ([]));
+      is_process = λ n. false;
+      field_count = λ n. if n == 4 then 1 else (if n == 5 then 1 else (0));
+      field_place = λ n x. 0;
+      is_value_field = λ n k. false;
+      tested_tag = λ n. if n == 4 then (Some 8) else (if n == 5 then (Some 9) else (None));
+      constant = constants 5;
+      ends = λ n. [];
+      old = λ n v. None;
+      is_lent = false;
     }
 
 abbrev a_try_tree : MethodTree
@@ -237,29 +237,29 @@ a_try = refl
 -- A write to a field, and a swap of one: `rename` of tests/lowered/writes.inko
 abbrev writes_to_fields_site : Site
 writes_to_fields_site =
-    record
-    { variables = 2
-    ; register = λ n. if n == 1 then 0 else (if n == 2 then 1 else (0))
-    ; variable = λ n. if n == 3 then 1 else (if n == 6 then 2 else (if n == 9 then 1 else (if n == 11 then 2 else (0))))
-    ; is_value = λ n. if n == 2 then true else (if n == 5 then true else (if n == 6 then true else (if n == 7 then true else (if n == 11 then true else (false)))))
-    ; is_borrow = λ n. if n == 1 then true else (if n == 3 then true else (if n == 4 then true else (if n == 9 then true else (false))))
-    ; is_nil = λ n. if n == 7 then true else (false)
-    ; call = λ n. None
-    ; takes = λ n. false
-    ; is_message = λ n. false
-    ; place = λ n. if n == 4 then 0 else (if n == 5 then 0 else (if n == 10 then 0 else (0)))
-    ; kind = λ n. if n == 12 then 13 else (0)
-    ; tag = λ n. if n == 12 then 0 else (0)
-    ; order = λ n. if n == 12 then (0 ∷ []) else ([])
-    ; is_process = λ n. false
-    ; field_count = λ n. 0
-    ; field_place = λ n x. 0
-    ; is_value_field = λ n k. false
-    ; tested_tag = λ n. None
-    ; constant = constants 0
-    ; ends = λ n. if n == 16 then (record { variable = 2; how = how.Sure } ∷ record { variable = 1; how = how.Sure } ∷ []) else ([])
-    ; old = λ n v. None
-    ; is_lent = false
+    record {
+      variables = 2;
+      register = λ n. if n == 1 then 0 else (if n == 2 then 1 else (0));
+      variable = λ n. if n == 3 then 1 else (if n == 6 then 2 else (if n == 9 then 1 else (if n == 11 then 2 else (0))));
+      is_value = λ n. if n == 2 then true else (if n == 5 then true else (if n == 6 then true else (if n == 7 then true else (if n == 11 then true else (false)))));
+      is_borrow = λ n. if n == 1 then true else (if n == 3 then true else (if n == 4 then true else (if n == 9 then true else (false))));
+      is_nil = λ n. if n == 7 then true else (false);
+      call = λ n. None;
+      takes = λ n. false;
+      is_message = λ n. false;
+      place = λ n. if n == 4 then 0 else (if n == 5 then 0 else (if n == 10 then 0 else (0)));
+      kind = λ n. if n == 12 then 13 else (0);
+      tag = λ n. if n == 12 then 0 else (0);
+      order = λ n. if n == 12 then (0 ∷ []) else ([]);
+      is_process = λ n. false;
+      field_count = λ n. 0;
+      field_place = λ n x. 0;
+      is_value_field = λ n k. false;
+      tested_tag = λ n. None;
+      constant = constants 0;
+      ends = λ n. if n == 16 then (record { variable = 2; how = how.Sure } ∷ record { variable = 1; how = how.Sure } ∷ []) else ([]);
+      old = λ n v. None;
+      is_lent = false;
     }
 
 abbrev writes_to_fields_tree : MethodTree
@@ -271,29 +271,29 @@ writes_to_fields = refl
 -- A write to a variable, and a drop of one that may be gone: `pick` of tests/lowered/writes.inko
 abbrev a_write_to_a_variable_site : Site
 a_write_to_a_variable_site =
-    record
-    { variables = 3
-    ; register = λ n. if n == 1 then 0 else (if n == 2 then 1 else (if n == 3 then 2 else (0)))
-    ; variable = λ n. if n == 8 then 2 else (if n == 9 then 3 else (if n == 11 then 1 else (0)))
-    ; is_value = λ n. if n == 1 then true else (if n == 4 then true else (if n == 6 then true else (if n == 10 then true else (if n == 11 then true else (if n == 14 then true else (if n == 15 then true else (if n == 16 then true else (if n == 17 then true else (false)))))))))
-    ; is_borrow = λ n. false
-    ; is_nil = λ n. if n == 2 then false else (if n == 3 then false else (if n == 10 then true else (if n == 14 then true else (if n == 17 then true else (false)))))
-    ; call = λ n. None
-    ; takes = λ n. false
-    ; is_message = λ n. false
-    ; place = λ n. 0
-    ; kind = λ n. if n == 5 then 13 else (if n == 7 then 13 else (0))
-    ; tag = λ n. if n == 5 then 0 else (if n == 7 then 0 else (0))
-    ; order = λ n. if n == 5 then (0 ∷ []) else (if n == 7 then (0 ∷ []) else ([]))
-    ; is_process = λ n. false
-    ; field_count = λ n. 0
-    ; field_place = λ n x. 0
-    ; is_value_field = λ n k. false
-    ; tested_tag = λ n. None
-    ; constant = constants 1
-    ; ends = λ n. if n == 19 then (record { variable = 3; how = how.Maybe } ∷ record { variable = 2; how = how.Sure } ∷ []) else (if n == 20 then (record { variable = 1; how = how.Sure } ∷ []) else ([]))
-    ; old = λ n v. if n == 10 && v == 2 then Some how.Sure else (None)
-    ; is_lent = false
+    record {
+      variables = 3;
+      register = λ n. if n == 1 then 0 else (if n == 2 then 1 else (if n == 3 then 2 else (0)));
+      variable = λ n. if n == 8 then 2 else (if n == 9 then 3 else (if n == 11 then 1 else (0)));
+      is_value = λ n. if n == 1 then true else (if n == 4 then true else (if n == 6 then true else (if n == 10 then true else (if n == 11 then true else (if n == 14 then true else (if n == 15 then true else (if n == 16 then true else (if n == 17 then true else (false)))))))));
+      is_borrow = λ n. false;
+      is_nil = λ n. if n == 2 then false else (if n == 3 then false else (if n == 10 then true else (if n == 14 then true else (if n == 17 then true else (false)))));
+      call = λ n. None;
+      takes = λ n. false;
+      is_message = λ n. false;
+      place = λ n. 0;
+      kind = λ n. if n == 5 then 13 else (if n == 7 then 13 else (0));
+      tag = λ n. if n == 5 then 0 else (if n == 7 then 0 else (0));
+      order = λ n. if n == 5 then (0 ∷ []) else (if n == 7 then (0 ∷ []) else ([]));
+      is_process = λ n. false;
+      field_count = λ n. 0;
+      field_place = λ n x. 0;
+      is_value_field = λ n k. false;
+      tested_tag = λ n. None;
+      constant = constants 1;
+      ends = λ n. if n == 19 then (record { variable = 3; how = how.Maybe } ∷ record { variable = 2; how = how.Sure } ∷ []) else (if n == 20 then (record { variable = 1; how = how.Sure } ∷ []) else ([]));
+      old = λ n v. if n == 10 && v == 2 then Some how.Sure else (None);
+      is_lent = false;
     }
 
 abbrev a_write_to_a_variable_tree : MethodTree
@@ -305,29 +305,29 @@ a_write_to_a_variable = refl
 -- Arms below a borrow, a guard that reads what is matched, and alternatives: `area` of tests/lowered/choices.inko
 abbrev arms_below_a_borrow_site : Site
 arms_below_a_borrow_site =
-    record
-    { variables = 4
-    ; register = λ n. if n == 1 then 0 else (if n == 2 then 1 else (if n == 20 then 2 else (if n == 26 then 3 else (0))))
-    ; variable = λ n. if n == 2 then 2 else (if n == 4 then 2 else (if n == 7 then 2 else (if n == 20 then 20 else (if n == 22 then 20 else (if n == 23 then 20 else (if n == 26 then 26 else (if n == 29 then 26 else (if n == 31 then 1 else (0)))))))))
-    ; is_value = λ n. if n == 2 then true else (if n == 4 then true else (if n == 5 then true else (if n == 6 then true else (if n == 7 then true else (if n == 9 then true else (if n == 11 then true else (if n == 14 then true else (if n == 16 then true else (if n == 18 then true else (if n == 20 then true else (if n == 22 then true else (if n == 23 then true else (if n == 24 then true else (if n == 26 then true else (if n == 29 then true else (if n == 32 then true else (false)))))))))))))))))
-    ; is_borrow = λ n. if n == 1 then true else (if n == 3 then true else (if n == 10 then true else (if n == 12 then true else (if n == 13 then true else (if n == 17 then true else (if n == 21 then true else (if n == 28 then true else (if n == 31 then true else (false)))))))))
-    ; is_nil = λ n. false
-    ; call = λ n. if n == 6 then (Some (target.Row 9)) else (if n == 24 then (Some (target.Row 2)) else (None))
-    ; takes = λ n. false
-    ; is_message = λ n. false
-    ; place = λ n. 0
-    ; kind = λ n. 0
-    ; tag = λ n. 0
-    ; order = λ n. []
-    ; is_process = λ n. false
-    ; field_count = λ n. if n == 3 then 1 else (if n == 10 then 1 else (if n == 12 then 1 else (if n == 17 then 1 else (if n == 21 then 1 else (if n == 28 then 2 else (0))))))
-    ; field_place = λ n x. 0
-    ; is_value_field = λ n k. false
-    ; tested_tag = λ n. if n == 3 then (Some 7) else (if n == 10 then (Some 7) else (if n == 12 then (Some 8) else (if n == 17 then (Some 7) else (if n == 21 then (Some 8) else (if n == 28 then (Some 9) else (None))))))
-    ; constant = constants 4
-    ; ends = λ n. if n == 35 then (record { variable = 1; how = how.Sure } ∷ []) else ([])
-    ; old = λ n v. None
-    ; is_lent = false
+    record {
+      variables = 4;
+      register = λ n. if n == 1 then 0 else (if n == 2 then 1 else (if n == 20 then 2 else (if n == 26 then 3 else (0))));
+      variable = λ n. if n == 2 then 2 else (if n == 4 then 2 else (if n == 7 then 2 else (if n == 20 then 20 else (if n == 22 then 20 else (if n == 23 then 20 else (if n == 26 then 26 else (if n == 29 then 26 else (if n == 31 then 1 else (0)))))))));
+      is_value = λ n. if n == 2 then true else (if n == 4 then true else (if n == 5 then true else (if n == 6 then true else (if n == 7 then true else (if n == 9 then true else (if n == 11 then true else (if n == 14 then true else (if n == 16 then true else (if n == 18 then true else (if n == 20 then true else (if n == 22 then true else (if n == 23 then true else (if n == 24 then true else (if n == 26 then true else (if n == 29 then true else (if n == 32 then true else (false)))))))))))))))));
+      is_borrow = λ n. if n == 1 then true else (if n == 3 then true else (if n == 10 then true else (if n == 12 then true else (if n == 13 then true else (if n == 17 then true else (if n == 21 then true else (if n == 28 then true else (if n == 31 then true else (false)))))))));
+      is_nil = λ n. false;
+      call = λ n. if n == 6 then (Some (target.Row 9)) else (if n == 24 then (Some (target.Row 2)) else (None));
+      takes = λ n. false;
+      is_message = λ n. false;
+      place = λ n. 0;
+      kind = λ n. 0;
+      tag = λ n. 0;
+      order = λ n. [];
+      is_process = λ n. false;
+      field_count = λ n. if n == 3 then 1 else (if n == 10 then 1 else (if n == 12 then 1 else (if n == 17 then 1 else (if n == 21 then 1 else (if n == 28 then 2 else (0))))));
+      field_place = λ n x. 0;
+      is_value_field = λ n k. false;
+      tested_tag = λ n. if n == 3 then (Some 7) else (if n == 10 then (Some 7) else (if n == 12 then (Some 8) else (if n == 17 then (Some 7) else (if n == 21 then (Some 8) else (if n == 28 then (Some 9) else (None))))));
+      constant = constants 4;
+      ends = λ n. if n == 35 then (record { variable = 1; how = how.Sure } ∷ []) else ([]);
+      old = λ n v. None;
+      is_lent = false;
     }
 
 abbrev arms_below_a_borrow_tree : MethodTree
@@ -339,29 +339,29 @@ arms_below_a_borrow = refl
 -- An arm that takes apart what is matched, and a path in its guard: `opened` of tests/lowered/choices.inko
 abbrev arms_that_take_apart_site : Site
 arms_that_take_apart_site =
-    record
-    { variables = 2
-    ; register = λ n. if n == 1 then 0 else (if n == 2 then 1 else (0))
-    ; variable = λ n. if n == 2 then 2 else (if n == 5 then 2 else (if n == 10 then 2 else (if n == 16 then 1 else (0))))
-    ; is_value = λ n. if n == 3 then true else (if n == 6 then true else (if n == 7 then true else (if n == 8 then true else (if n == 9 then true else (if n == 13 then true else (false))))))
-    ; is_borrow = λ n. if n == 5 then true else (false)
-    ; is_nil = λ n. false
-    ; call = λ n. if n == 7 then (Some (target.Row 24)) else (if n == 9 then (Some (target.Row 9)) else (None))
-    ; takes = λ n. false
-    ; is_message = λ n. false
-    ; place = λ n. if n == 6 then 0 else (0)
-    ; kind = λ n. if n == 14 then 13 else (0)
-    ; tag = λ n. if n == 14 then 0 else (0)
-    ; order = λ n. if n == 14 then (0 ∷ []) else ([])
-    ; is_process = λ n. false
-    ; field_count = λ n. if n == 4 then 2 else (0)
-    ; field_place = λ n x. 0
-    ; is_value_field = λ n k. false
-    ; tested_tag = λ n. if n == 4 then (Some 9) else (None)
-    ; constant = constants 3
-    ; ends = λ n. []
-    ; old = λ n v. None
-    ; is_lent = false
+    record {
+      variables = 2;
+      register = λ n. if n == 1 then 0 else (if n == 2 then 1 else (0));
+      variable = λ n. if n == 2 then 2 else (if n == 5 then 2 else (if n == 10 then 2 else (if n == 16 then 1 else (0))));
+      is_value = λ n. if n == 3 then true else (if n == 6 then true else (if n == 7 then true else (if n == 8 then true else (if n == 9 then true else (if n == 13 then true else (false))))));
+      is_borrow = λ n. if n == 5 then true else (false);
+      is_nil = λ n. false;
+      call = λ n. if n == 7 then (Some (target.Row 24)) else (if n == 9 then (Some (target.Row 9)) else (None));
+      takes = λ n. false;
+      is_message = λ n. false;
+      place = λ n. if n == 6 then 0 else (0);
+      kind = λ n. if n == 14 then 13 else (0);
+      tag = λ n. if n == 14 then 0 else (0);
+      order = λ n. if n == 14 then (0 ∷ []) else ([]);
+      is_process = λ n. false;
+      field_count = λ n. if n == 4 then 2 else (0);
+      field_place = λ n x. 0;
+      is_value_field = λ n k. false;
+      tested_tag = λ n. if n == 4 then (Some 9) else (None);
+      constant = constants 3;
+      ends = λ n. [];
+      old = λ n v. None;
+      is_lent = false;
     }
 
 abbrev arms_that_take_apart_tree : MethodTree
@@ -373,29 +373,29 @@ arms_that_take_apart = refl
 -- The state of a process, a call on it, and a promise that is kept: `Adder.add` of tests/lowered/processes.inko
 abbrev a_message_is_handled_site : Site
 a_message_is_handled_site =
-    record
-    { variables = 3
-    ; register = λ n. if n == 1 then 1 else (if n == 2 then 2 else (0))
-    ; variable = λ n. if n == 3 then 1 else (if n == 19 then 2 else (0))
-    ; is_value = λ n. if n == 4 then true else (if n == 6 then true else (if n == 8 then true else (if n == 10 then true else (if n == 11 then true else (if n == 12 then true else (if n == 15 then true else (if n == 16 then true else (if n == 17 then true else (if n == 21 then true else (if n == 22 then true else (if n == 23 then true else (false))))))))))))
-    ; is_borrow = λ n. if n == 5 then true else (if n == 7 then true else (if n == 9 then true else (if n == 14 then true else (if n == 20 then true else (false)))))
-    ; is_nil = λ n. if n == 12 then true else (if n == 16 then true else (if n == 17 then true else (if n == 22 then true else (if n == 23 then true else (false)))))
-    ; call = λ n. if n == 5 then (Some (target.Row 33)) else (if n == 6 then (Some (target.Row 40)) else (if n == 11 then (Some (target.Row 0)) else (if n == 16 then (Some (target.Method 1)) else (if n == 22 then (Some (target.Row 44)) else (None)))))
-    ; takes = λ n. if n == 6 then true else (if n == 22 then true else (false))
-    ; is_message = λ n. false
-    ; place = λ n. if n == 8 then 0 else (if n == 10 then 0 else (if n == 21 then 0 else (0)))
-    ; kind = λ n. 0
-    ; tag = λ n. 0
-    ; order = λ n. []
-    ; is_process = λ n. false
-    ; field_count = λ n. 0
-    ; field_place = λ n x. 0
-    ; is_value_field = λ n k. false
-    ; tested_tag = λ n. None
-    ; constant = constants 3
-    ; ends = λ n. if n == 26 then (record { variable = 1; how = how.Sure } ∷ []) else ([])
-    ; old = λ n v. None
-    ; is_lent = true
+    record {
+      variables = 3;
+      register = λ n. if n == 1 then 1 else (if n == 2 then 2 else (0));
+      variable = λ n. if n == 3 then 1 else (if n == 19 then 2 else (0));
+      is_value = λ n. if n == 4 then true else (if n == 6 then true else (if n == 8 then true else (if n == 10 then true else (if n == 11 then true else (if n == 12 then true else (if n == 15 then true else (if n == 16 then true else (if n == 17 then true else (if n == 21 then true else (if n == 22 then true else (if n == 23 then true else (false))))))))))));
+      is_borrow = λ n. if n == 5 then true else (if n == 7 then true else (if n == 9 then true else (if n == 14 then true else (if n == 20 then true else (false)))));
+      is_nil = λ n. if n == 12 then true else (if n == 16 then true else (if n == 17 then true else (if n == 22 then true else (if n == 23 then true else (false)))));
+      call = λ n. if n == 5 then (Some (target.Row 33)) else (if n == 6 then (Some (target.Row 40)) else (if n == 11 then (Some (target.Row 0)) else (if n == 16 then (Some (target.Method 1)) else (if n == 22 then (Some (target.Row 44)) else (None)))));
+      takes = λ n. if n == 6 then true else (if n == 22 then true else (false));
+      is_message = λ n. false;
+      place = λ n. if n == 8 then 0 else (if n == 10 then 0 else (if n == 21 then 0 else (0)));
+      kind = λ n. 0;
+      tag = λ n. 0;
+      order = λ n. [];
+      is_process = λ n. false;
+      field_count = λ n. 0;
+      field_place = λ n x. 0;
+      is_value_field = λ n k. false;
+      tested_tag = λ n. None;
+      constant = constants 3;
+      ends = λ n. if n == 26 then (record { variable = 1; how = how.Sure } ∷ []) else ([]);
+      old = λ n v. None;
+      is_lent = true;
     }
 
 abbrev a_message_is_handled_tree : MethodTree
@@ -407,29 +407,29 @@ a_message_is_handled = refl
 -- A line that is written, and a temporary receiver: `Adder.note` of tests/lowered/processes.inko
 abbrev a_line_is_written_site : Site
 a_line_is_written_site =
-    record
-    { variables = 2
-    ; register = λ n. if n == 1 then 1 else (0)
-    ; variable = λ n. 0
-    ; is_value = λ n. if n == 1 then true else (if n == 2 then true else (if n == 4 then true else (if n == 5 then true else (if n == 6 then true else (if n == 8 then true else (if n == 9 then true else (false)))))))
-    ; is_borrow = λ n. if n == 3 then true else (false)
-    ; is_nil = λ n. if n == 8 then true else (if n == 9 then true else (false))
-    ; call = λ n. if n == 5 then (Some (target.Row 16)) else (if n == 6 then (Some (target.Row 21)) else (if n == 7 then (Some (target.Row 47)) else (if n == 8 then (Some (target.Row 46)) else (None))))
-    ; takes = λ n. false
-    ; is_message = λ n. false
-    ; place = λ n. if n == 4 then 0 else (0)
-    ; kind = λ n. 0
-    ; tag = λ n. 0
-    ; order = λ n. []
-    ; is_process = λ n. false
-    ; field_count = λ n. 0
-    ; field_place = λ n x. 0
-    ; is_value_field = λ n k. false
-    ; tested_tag = λ n. None
-    ; constant = constants 3
-    ; ends = λ n. []
-    ; old = λ n v. None
-    ; is_lent = true
+    record {
+      variables = 2;
+      register = λ n. if n == 1 then 1 else (0);
+      variable = λ n. 0;
+      is_value = λ n. if n == 1 then true else (if n == 2 then true else (if n == 4 then true else (if n == 5 then true else (if n == 6 then true else (if n == 8 then true else (if n == 9 then true else (false)))))));
+      is_borrow = λ n. if n == 3 then true else (false);
+      is_nil = λ n. if n == 8 then true else (if n == 9 then true else (false));
+      call = λ n. if n == 5 then (Some (target.Row 16)) else (if n == 6 then (Some (target.Row 21)) else (if n == 7 then (Some (target.Row 47)) else (if n == 8 then (Some (target.Row 46)) else (None))));
+      takes = λ n. false;
+      is_message = λ n. false;
+      place = λ n. if n == 4 then 0 else (0);
+      kind = λ n. 0;
+      tag = λ n. 0;
+      order = λ n. [];
+      is_process = λ n. false;
+      field_count = λ n. 0;
+      field_place = λ n x. 0;
+      is_value_field = λ n k. false;
+      tested_tag = λ n. None;
+      constant = constants 3;
+      ends = λ n. [];
+      old = λ n v. None;
+      is_lent = true;
     }
 
 abbrev a_line_is_written_tree : MethodTree
@@ -441,29 +441,29 @@ a_line_is_written = refl
 -- A new process, a message to it, and a future: `Main.main` of tests/lowered/processes.inko
 abbrev a_message_site : Site
 a_message_site =
-    record
-    { variables = 4
-    ; register = λ n. if n == 1 then 1 else (if n == 3 then 2 else (if n == 4 then 3 else (0)))
-    ; variable = λ n. if n == 3 then 3 else (if n == 4 then 4 else (if n == 13 then 4 else (if n == 15 then 3 else (if n == 27 then 1 else (0)))))
-    ; is_value = λ n. if n == 6 then true else (if n == 7 then true else (if n == 8 then true else (if n == 9 then true else (if n == 14 then true else (if n == 16 then true else (if n == 17 then true else (if n == 18 then true else (if n == 19 then true else (if n == 21 then true else (if n == 22 then true else (if n == 24 then true else (if n == 26 then true else (if n == 29 then true else (false))))))))))))))
-    ; is_borrow = λ n. false
-    ; is_nil = λ n. if n == 1 then false else (if n == 14 then true else (if n == 21 then true else (if n == 22 then true else (if n == 24 then true else (if n == 26 then true else (if n == 29 then true else (false)))))))
-    ; call = λ n. if n == 2 then (Some (target.Row 45)) else (if n == 14 then (Some (target.Method 0)) else (if n == 16 then (Some (target.Row 43)) else (if n == 17 then (Some (target.Row 16)) else (if n == 19 then (Some (target.Row 21)) else (if n == 20 then (Some (target.Row 47)) else (if n == 21 then (Some (target.Row 46)) else (None)))))))
-    ; takes = λ n. if n == 16 then true else (false)
-    ; is_message = λ n. if n == 14 then true else (false)
-    ; place = λ n. 0
-    ; kind = λ n. if n == 7 then 13 else (0)
-    ; tag = λ n. if n == 7 then 0 else (0)
-    ; order = λ n. if n == 7 then (0 ∷ []) else ([])
-    ; is_process = λ n. if n == 7 then true else (false)
-    ; field_count = λ n. if n == 5 then 2 else (0)
-    ; field_place = λ n x. 0
-    ; is_value_field = λ n k. false
-    ; tested_tag = λ n. None
-    ; constant = constants 3
-    ; ends = λ n. []
-    ; old = λ n v. None
-    ; is_lent = true
+    record {
+      variables = 4;
+      register = λ n. if n == 1 then 1 else (if n == 3 then 2 else (if n == 4 then 3 else (0)));
+      variable = λ n. if n == 3 then 3 else (if n == 4 then 4 else (if n == 13 then 4 else (if n == 15 then 3 else (if n == 27 then 1 else (0)))));
+      is_value = λ n. if n == 6 then true else (if n == 7 then true else (if n == 8 then true else (if n == 9 then true else (if n == 14 then true else (if n == 16 then true else (if n == 17 then true else (if n == 18 then true else (if n == 19 then true else (if n == 21 then true else (if n == 22 then true else (if n == 24 then true else (if n == 26 then true else (if n == 29 then true else (false))))))))))))));
+      is_borrow = λ n. false;
+      is_nil = λ n. if n == 1 then false else (if n == 14 then true else (if n == 21 then true else (if n == 22 then true else (if n == 24 then true else (if n == 26 then true else (if n == 29 then true else (false)))))));
+      call = λ n. if n == 2 then (Some (target.Row 45)) else (if n == 14 then (Some (target.Method 0)) else (if n == 16 then (Some (target.Row 43)) else (if n == 17 then (Some (target.Row 16)) else (if n == 19 then (Some (target.Row 21)) else (if n == 20 then (Some (target.Row 47)) else (if n == 21 then (Some (target.Row 46)) else (None)))))));
+      takes = λ n. if n == 16 then true else (false);
+      is_message = λ n. if n == 14 then true else (false);
+      place = λ n. 0;
+      kind = λ n. if n == 7 then 13 else (0);
+      tag = λ n. if n == 7 then 0 else (0);
+      order = λ n. if n == 7 then (0 ∷ []) else ([]);
+      is_process = λ n. if n == 7 then true else (false);
+      field_count = λ n. if n == 5 then 2 else (0);
+      field_place = λ n x. 0;
+      is_value_field = λ n k. false;
+      tested_tag = λ n. None;
+      constant = constants 3;
+      ends = λ n. [];
+      old = λ n v. None;
+      is_lent = true;
     }
 
 abbrev a_message_tree : MethodTree
@@ -475,29 +475,29 @@ a_message = refl
 -- `self` as a variable that ends with its method: `Cat.into` of tests/lowered/forms.inko
 abbrev self_is_owned_site : Site
 self_is_owned_site =
-    record
-    { variables = 1
-    ; register = λ n. if n == 0 then 0 else (0)
-    ; variable = λ n. 0
-    ; is_value = λ n. if n == 2 then true else (false)
-    ; is_borrow = λ n. false
-    ; is_nil = λ n. false
-    ; call = λ n. None
-    ; takes = λ n. false
-    ; is_message = λ n. false
-    ; place = λ n. if n == 2 then 0 else (0)
-    ; kind = λ n. 0
-    ; tag = λ n. 0
-    ; order = λ n. []
-    ; is_process = λ n. false
-    ; field_count = λ n. 0
-    ; field_place = λ n x. 0
-    ; is_value_field = λ n k. false
-    ; tested_tag = λ n. None
-    ; constant = constants 5
-    ; ends = λ n. if n == 5 then (record { variable = 5; how = how.Sure } ∷ []) else ([])
-    ; old = λ n v. None
-    ; is_lent = false
+    record {
+      variables = 1;
+      register = λ n. if n == 0 then 0 else (0);
+      variable = λ n. 0;
+      is_value = λ n. if n == 2 then true else (false);
+      is_borrow = λ n. false;
+      is_nil = λ n. false;
+      call = λ n. None;
+      takes = λ n. false;
+      is_message = λ n. false;
+      place = λ n. if n == 2 then 0 else (0);
+      kind = λ n. 0;
+      tag = λ n. 0;
+      order = λ n. [];
+      is_process = λ n. false;
+      field_count = λ n. 0;
+      field_place = λ n x. 0;
+      is_value_field = λ n k. false;
+      tested_tag = λ n. None;
+      constant = constants 5;
+      ends = λ n. if n == 5 then (record { variable = 5; how = how.Sure } ∷ []) else ([]);
+      old = λ n v. None;
+      is_lent = false;
     }
 
 abbrev self_is_owned_tree : MethodTree
@@ -509,29 +509,29 @@ self_is_owned = refl
 -- A call of a type parameter's method: `named` of tests/lowered/forms.inko
 abbrev a_bounded_call_site : Site
 a_bounded_call_site =
-    record
-    { variables = 1
-    ; register = λ n. if n == 1 then 0 else (0)
-    ; variable = λ n. if n == 2 then 1 else (0)
-    ; is_value = λ n. if n == 3 then true else (false)
-    ; is_borrow = λ n. if n == 1 then true else (if n == 2 then true else (false))
-    ; is_nil = λ n. false
-    ; call = λ n. if n == 3 then (Some (target.Bound 0)) else (None)
-    ; takes = λ n. false
-    ; is_message = λ n. false
-    ; place = λ n. 0
-    ; kind = λ n. 0
-    ; tag = λ n. 0
-    ; order = λ n. []
-    ; is_process = λ n. false
-    ; field_count = λ n. 0
-    ; field_place = λ n x. 0
-    ; is_value_field = λ n k. false
-    ; tested_tag = λ n. None
-    ; constant = constants 5
-    ; ends = λ n. if n == 6 then (record { variable = 1; how = how.Sure } ∷ []) else ([])
-    ; old = λ n v. None
-    ; is_lent = false
+    record {
+      variables = 1;
+      register = λ n. if n == 1 then 0 else (0);
+      variable = λ n. if n == 2 then 1 else (0);
+      is_value = λ n. if n == 3 then true else (false);
+      is_borrow = λ n. if n == 1 then true else (if n == 2 then true else (false));
+      is_nil = λ n. false;
+      call = λ n. if n == 3 then (Some (target.Bound 0)) else (None);
+      takes = λ n. false;
+      is_message = λ n. false;
+      place = λ n. 0;
+      kind = λ n. 0;
+      tag = λ n. 0;
+      order = λ n. [];
+      is_process = λ n. false;
+      field_count = λ n. 0;
+      field_place = λ n x. 0;
+      is_value_field = λ n k. false;
+      tested_tag = λ n. None;
+      constant = constants 5;
+      ends = λ n. if n == 6 then (record { variable = 1; how = how.Sure } ∷ []) else ([]);
+      old = λ n v. None;
+      is_lent = false;
     }
 
 abbrev a_bounded_call_tree : MethodTree
@@ -543,29 +543,29 @@ a_bounded_call = refl
 -- Values that are given up, by `_` and as statements: `given_up` of tests/lowered/forms.inko
 abbrev values_are_given_up_site : Site
 values_are_given_up_site =
-    record
-    { variables = 1
-    ; register = λ n. if n == 1 then 0 else (0)
-    ; variable = λ n. if n == 2 then 1 else (0)
-    ; is_value = λ n. if n == 3 then true else (if n == 4 then true else (if n == 6 then true else (if n == 8 then true else (false))))
-    ; is_borrow = λ n. false
-    ; is_nil = λ n. if n == 3 then true else (if n == 6 then true else (false))
-    ; call = λ n. None
-    ; takes = λ n. false
-    ; is_message = λ n. false
-    ; place = λ n. 0
-    ; kind = λ n. if n == 5 then 13 else (0)
-    ; tag = λ n. if n == 5 then 0 else (0)
-    ; order = λ n. if n == 5 then (0 ∷ []) else ([])
-    ; is_process = λ n. false
-    ; field_count = λ n. 0
-    ; field_place = λ n x. 0
-    ; is_value_field = λ n k. false
-    ; tested_tag = λ n. None
-    ; constant = constants 5
-    ; ends = λ n. []
-    ; old = λ n v. None
-    ; is_lent = false
+    record {
+      variables = 1;
+      register = λ n. if n == 1 then 0 else (0);
+      variable = λ n. if n == 2 then 1 else (0);
+      is_value = λ n. if n == 3 then true else (if n == 4 then true else (if n == 6 then true else (if n == 8 then true else (false))));
+      is_borrow = λ n. false;
+      is_nil = λ n. if n == 3 then true else (if n == 6 then true else (false));
+      call = λ n. None;
+      takes = λ n. false;
+      is_message = λ n. false;
+      place = λ n. 0;
+      kind = λ n. if n == 5 then 13 else (0);
+      tag = λ n. if n == 5 then 0 else (0);
+      order = λ n. if n == 5 then (0 ∷ []) else ([]);
+      is_process = λ n. false;
+      field_count = λ n. 0;
+      field_place = λ n x. 0;
+      is_value_field = λ n k. false;
+      tested_tag = λ n. None;
+      constant = constants 5;
+      ends = λ n. [];
+      old = λ n v. None;
+      is_lent = false;
     }
 
 abbrev values_are_given_up_tree : MethodTree
@@ -577,29 +577,29 @@ values_are_given_up = refl
 -- A panic, behind which nothing stands: `stopped` of tests/lowered/forms.inko
 abbrev a_panic_site : Site
 a_panic_site =
-    record
-    { variables = 1
-    ; register = λ n. if n == 1 then 0 else (0)
-    ; variable = λ n. if n == 2 then 1 else (0)
-    ; is_value = λ n. if n == 1 then true else (if n == 2 then true else (false))
-    ; is_borrow = λ n. false
-    ; is_nil = λ n. false
-    ; call = λ n. None
-    ; takes = λ n. false
-    ; is_message = λ n. false
-    ; place = λ n. 0
-    ; kind = λ n. 0
-    ; tag = λ n. 0
-    ; order = λ n. []
-    ; is_process = λ n. false
-    ; field_count = λ n. 0
-    ; field_place = λ n x. 0
-    ; is_value_field = λ n k. false
-    ; tested_tag = λ n. None
-    ; constant = constants 5
-    ; ends = λ n. if n == 5 then (record { variable = 1; how = how.Sure } ∷ []) else ([])
-    ; old = λ n v. None
-    ; is_lent = false
+    record {
+      variables = 1;
+      register = λ n. if n == 1 then 0 else (0);
+      variable = λ n. if n == 2 then 1 else (0);
+      is_value = λ n. if n == 1 then true else (if n == 2 then true else (false));
+      is_borrow = λ n. false;
+      is_nil = λ n. false;
+      call = λ n. None;
+      takes = λ n. false;
+      is_message = λ n. false;
+      place = λ n. 0;
+      kind = λ n. 0;
+      tag = λ n. 0;
+      order = λ n. [];
+      is_process = λ n. false;
+      field_count = λ n. 0;
+      field_place = λ n x. 0;
+      is_value_field = λ n k. false;
+      tested_tag = λ n. None;
+      constant = constants 5;
+      ends = λ n. if n == 5 then (record { variable = 1; how = how.Sure } ∷ []) else ([]);
+      old = λ n v. None;
+      is_lent = false;
     }
 
 abbrev a_panic_tree : MethodTree
@@ -611,29 +611,29 @@ a_panic = refl
 -- A tuple: `paired` of tests/lowered/forms.inko
 abbrev a_pair_site : Site
 a_pair_site =
-    record
-    { variables = 1
-    ; register = λ n. if n == 1 then 0 else (0)
-    ; variable = λ n. if n == 2 then 1 else (0)
-    ; is_value = λ n. if n == 3 then true else (false)
-    ; is_borrow = λ n. false
-    ; is_nil = λ n. false
-    ; call = λ n. None
-    ; takes = λ n. false
-    ; is_message = λ n. false
-    ; place = λ n. 0
-    ; kind = λ n. if n == 4 then 8 else (0)
-    ; tag = λ n. if n == 4 then 0 else (0)
-    ; order = λ n. if n == 4 then (0 ∷ 1 ∷ []) else ([])
-    ; is_process = λ n. false
-    ; field_count = λ n. 0
-    ; field_place = λ n x. 0
-    ; is_value_field = λ n k. false
-    ; tested_tag = λ n. None
-    ; constant = constants 5
-    ; ends = λ n. []
-    ; old = λ n v. None
-    ; is_lent = false
+    record {
+      variables = 1;
+      register = λ n. if n == 1 then 0 else (0);
+      variable = λ n. if n == 2 then 1 else (0);
+      is_value = λ n. if n == 3 then true else (false);
+      is_borrow = λ n. false;
+      is_nil = λ n. false;
+      call = λ n. None;
+      takes = λ n. false;
+      is_message = λ n. false;
+      place = λ n. 0;
+      kind = λ n. if n == 4 then 8 else (0);
+      tag = λ n. if n == 4 then 0 else (0);
+      order = λ n. if n == 4 then (0 ∷ 1 ∷ []) else ([]);
+      is_process = λ n. false;
+      field_count = λ n. 0;
+      field_place = λ n x. 0;
+      is_value_field = λ n k. false;
+      tested_tag = λ n. None;
+      constant = constants 5;
+      ends = λ n. [];
+      old = λ n v. None;
+      is_lent = false;
     }
 
 abbrev a_pair_tree : MethodTree
@@ -645,29 +645,29 @@ a_pair = refl
 -- A swap of a variable: `swapped` of tests/lowered/forms.inko
 abbrev a_swap_site : Site
 a_swap_site =
-    record
-    { variables = 2
-    ; register = λ n. if n == 1 then 0 else (if n == 2 then 1 else (0))
-    ; variable = λ n. if n == 5 then 2 else (if n == 6 then 1 else (0))
-    ; is_value = λ n. if n == 3 then true else (false)
-    ; is_borrow = λ n. false
-    ; is_nil = λ n. if n == 2 then false else (false)
-    ; call = λ n. None
-    ; takes = λ n. false
-    ; is_message = λ n. false
-    ; place = λ n. 0
-    ; kind = λ n. if n == 4 then 13 else (0)
-    ; tag = λ n. if n == 4 then 0 else (0)
-    ; order = λ n. if n == 4 then (0 ∷ []) else ([])
-    ; is_process = λ n. false
-    ; field_count = λ n. 0
-    ; field_place = λ n x. 0
-    ; is_value_field = λ n k. false
-    ; tested_tag = λ n. None
-    ; constant = constants 5
-    ; ends = λ n. if n == 9 then (record { variable = 2; how = how.Sure } ∷ []) else ([])
-    ; old = λ n v. None
-    ; is_lent = false
+    record {
+      variables = 2;
+      register = λ n. if n == 1 then 0 else (if n == 2 then 1 else (0));
+      variable = λ n. if n == 5 then 2 else (if n == 6 then 1 else (0));
+      is_value = λ n. if n == 3 then true else (false);
+      is_borrow = λ n. false;
+      is_nil = λ n. if n == 2 then false else (false);
+      call = λ n. None;
+      takes = λ n. false;
+      is_message = λ n. false;
+      place = λ n. 0;
+      kind = λ n. if n == 4 then 13 else (0);
+      tag = λ n. if n == 4 then 0 else (0);
+      order = λ n. if n == 4 then (0 ∷ []) else ([]);
+      is_process = λ n. false;
+      field_count = λ n. 0;
+      field_place = λ n x. 0;
+      is_value_field = λ n k. false;
+      tested_tag = λ n. None;
+      constant = constants 5;
+      ends = λ n. if n == 9 then (record { variable = 2; how = how.Sure } ∷ []) else ([]);
+      old = λ n v. None;
+      is_lent = false;
     }
 
 abbrev a_swap_tree : MethodTree
@@ -679,29 +679,29 @@ a_swap = refl
 -- A receiver that the method takes away: `taken` of tests/lowered/forms.inko
 abbrev a_receiver_is_moved_site : Site
 a_receiver_is_moved_site =
-    record
-    { variables = 1
-    ; register = λ n. if n == 1 then 0 else (0)
-    ; variable = λ n. if n == 2 then 1 else (0)
-    ; is_value = λ n. if n == 3 then true else (false)
-    ; is_borrow = λ n. false
-    ; is_nil = λ n. false
-    ; call = λ n. if n == 3 then (Some (target.Method 0)) else (None)
-    ; takes = λ n. if n == 3 then true else (false)
-    ; is_message = λ n. false
-    ; place = λ n. 0
-    ; kind = λ n. 0
-    ; tag = λ n. 0
-    ; order = λ n. []
-    ; is_process = λ n. false
-    ; field_count = λ n. 0
-    ; field_place = λ n x. 0
-    ; is_value_field = λ n k. false
-    ; tested_tag = λ n. None
-    ; constant = constants 5
-    ; ends = λ n. []
-    ; old = λ n v. None
-    ; is_lent = false
+    record {
+      variables = 1;
+      register = λ n. if n == 1 then 0 else (0);
+      variable = λ n. if n == 2 then 1 else (0);
+      is_value = λ n. if n == 3 then true else (false);
+      is_borrow = λ n. false;
+      is_nil = λ n. false;
+      call = λ n. if n == 3 then (Some (target.Method 0)) else (None);
+      takes = λ n. if n == 3 then true else (false);
+      is_message = λ n. false;
+      place = λ n. 0;
+      kind = λ n. 0;
+      tag = λ n. 0;
+      order = λ n. [];
+      is_process = λ n. false;
+      field_count = λ n. 0;
+      field_place = λ n x. 0;
+      is_value_field = λ n k. false;
+      tested_tag = λ n. None;
+      constant = constants 5;
+      ends = λ n. [];
+      old = λ n v. None;
+      is_lent = false;
     }
 
 abbrev a_receiver_is_moved_tree : MethodTree
@@ -713,29 +713,29 @@ a_receiver_is_moved = refl
 -- The words `and` and `or` are choices: `both` of tests/lowered/forms.inko
 abbrev a_conjunction_site : Site
 a_conjunction_site =
-    record
-    { variables = 2
-    ; register = λ n. if n == 1 then 0 else (if n == 2 then 1 else (0))
-    ; variable = λ n. if n == 3 then 1 else (if n == 4 then 2 else (0))
-    ; is_value = λ n. if n == 1 then true else (if n == 2 then true else (if n == 3 then true else (if n == 4 then true else (if n == 6 then true else (if n == 7 then true else (if n == 8 then true else (if n == 9 then true else (false))))))))
-    ; is_borrow = λ n. false
-    ; is_nil = λ n. false
-    ; call = λ n. None
-    ; takes = λ n. false
-    ; is_message = λ n. false
-    ; place = λ n. 0
-    ; kind = λ n. 0
-    ; tag = λ n. 0
-    ; order = λ n. []
-    ; is_process = λ n. false
-    ; field_count = λ n. 0
-    ; field_place = λ n x. 0
-    ; is_value_field = λ n k. false
-    ; tested_tag = λ n. None
-    ; constant = constants 5
-    ; ends = λ n. if n == 12 then (record { variable = 2; how = how.Sure } ∷ record { variable = 1; how = how.Sure } ∷ []) else ([])
-    ; old = λ n v. None
-    ; is_lent = false
+    record {
+      variables = 2;
+      register = λ n. if n == 1 then 0 else (if n == 2 then 1 else (0));
+      variable = λ n. if n == 3 then 1 else (if n == 4 then 2 else (0));
+      is_value = λ n. if n == 1 then true else (if n == 2 then true else (if n == 3 then true else (if n == 4 then true else (if n == 6 then true else (if n == 7 then true else (if n == 8 then true else (if n == 9 then true else (false))))))));
+      is_borrow = λ n. false;
+      is_nil = λ n. false;
+      call = λ n. None;
+      takes = λ n. false;
+      is_message = λ n. false;
+      place = λ n. 0;
+      kind = λ n. 0;
+      tag = λ n. 0;
+      order = λ n. [];
+      is_process = λ n. false;
+      field_count = λ n. 0;
+      field_place = λ n x. 0;
+      is_value_field = λ n k. false;
+      tested_tag = λ n. None;
+      constant = constants 5;
+      ends = λ n. if n == 12 then (record { variable = 2; how = how.Sure } ∷ record { variable = 1; how = how.Sure } ∷ []) else ([]);
+      old = λ n v. None;
+      is_lent = false;
     }
 
 abbrev a_conjunction_tree : MethodTree
@@ -747,29 +747,29 @@ a_conjunction = refl
 -- A loop within a loop, each with its own break: `nested` of tests/lowered/forms.inko
 abbrev loops_within_loops_site : Site
 loops_within_loops_site =
-    record
-    { variables = 3
-    ; register = λ n. if n == 1 then 0 else (if n == 2 then 1 else (if n == 3 then 2 else (0)))
-    ; variable = λ n. if n == 7 then 2 else (if n == 20 then 2 else (if n == 21 then 2 else (if n == 26 then 2 else (0))))
-    ; is_value = λ n. if n == 2 then true else (if n == 4 then true else (if n == 5 then true else (if n == 7 then true else (if n == 8 then true else (if n == 9 then true else (if n == 13 then true else (if n == 15 then true else (if n == 16 then true else (if n == 17 then true else (if n == 18 then true else (if n == 20 then true else (if n == 21 then true else (if n == 22 then true else (if n == 23 then true else (if n == 24 then true else (if n == 26 then true else (if n == 27 then true else (if n == 28 then true else (if n == 32 then true else (if n == 34 then true else (if n == 35 then true else (if n == 36 then true else (if n == 37 then true else (if n == 39 then true else (if n == 40 then true else (if n == 41 then true else (if n == 44 then true else (if n == 45 then true else (if n == 46 then true else (if n == 47 then true else (if n == 49 then true else (if n == 50 then true else (if n == 52 then true else (false))))))))))))))))))))))))))))))))))
-    ; is_borrow = λ n. false
-    ; is_nil = λ n. if n == 2 then false else (if n == 3 then false else (if n == 13 then true else (if n == 15 then true else (if n == 18 then true else (if n == 24 then true else (if n == 32 then true else (if n == 34 then true else (if n == 37 then true else (if n == 40 then true else (if n == 41 then true else (if n == 46 then true else (if n == 47 then true else (if n == 49 then true else (if n == 50 then true else (if n == 52 then true else (false))))))))))))))))
-    ; call = λ n. if n == 9 then (Some (target.Row 9)) else (if n == 23 then (Some (target.Row 0)) else (if n == 28 then (Some (target.Row 9)) else (None)))
-    ; takes = λ n. false
-    ; is_message = λ n. false
-    ; place = λ n. 0
-    ; kind = λ n. if n == 6 then 13 else (0)
-    ; tag = λ n. if n == 6 then 0 else (0)
-    ; order = λ n. if n == 6 then (0 ∷ []) else ([])
-    ; is_process = λ n. false
-    ; field_count = λ n. 0
-    ; field_place = λ n x. 0
-    ; is_value_field = λ n k. false
-    ; tested_tag = λ n. None
-    ; constant = constants 5
-    ; ends = λ n. if n == 10 then (record { variable = 3; how = how.Sure } ∷ []) else (if n == 49 then (record { variable = 3; how = how.Sure } ∷ []) else (if n == 52 then (record { variable = 2; how = how.Sure } ∷ []) else (if n == 53 then (record { variable = 1; how = how.Sure } ∷ []) else ([]))))
-    ; old = λ n v. None
-    ; is_lent = false
+    record {
+      variables = 3;
+      register = λ n. if n == 1 then 0 else (if n == 2 then 1 else (if n == 3 then 2 else (0)));
+      variable = λ n. if n == 7 then 2 else (if n == 20 then 2 else (if n == 21 then 2 else (if n == 26 then 2 else (0))));
+      is_value = λ n. if n == 2 then true else (if n == 4 then true else (if n == 5 then true else (if n == 7 then true else (if n == 8 then true else (if n == 9 then true else (if n == 13 then true else (if n == 15 then true else (if n == 16 then true else (if n == 17 then true else (if n == 18 then true else (if n == 20 then true else (if n == 21 then true else (if n == 22 then true else (if n == 23 then true else (if n == 24 then true else (if n == 26 then true else (if n == 27 then true else (if n == 28 then true else (if n == 32 then true else (if n == 34 then true else (if n == 35 then true else (if n == 36 then true else (if n == 37 then true else (if n == 39 then true else (if n == 40 then true else (if n == 41 then true else (if n == 44 then true else (if n == 45 then true else (if n == 46 then true else (if n == 47 then true else (if n == 49 then true else (if n == 50 then true else (if n == 52 then true else (false))))))))))))))))))))))))))))))))));
+      is_borrow = λ n. false;
+      is_nil = λ n. if n == 2 then false else (if n == 3 then false else (if n == 13 then true else (if n == 15 then true else (if n == 18 then true else (if n == 24 then true else (if n == 32 then true else (if n == 34 then true else (if n == 37 then true else (if n == 40 then true else (if n == 41 then true else (if n == 46 then true else (if n == 47 then true else (if n == 49 then true else (if n == 50 then true else (if n == 52 then true else (false))))))))))))))));
+      call = λ n. if n == 9 then (Some (target.Row 9)) else (if n == 23 then (Some (target.Row 0)) else (if n == 28 then (Some (target.Row 9)) else (None)));
+      takes = λ n. false;
+      is_message = λ n. false;
+      place = λ n. 0;
+      kind = λ n. if n == 6 then 13 else (0);
+      tag = λ n. if n == 6 then 0 else (0);
+      order = λ n. if n == 6 then (0 ∷ []) else ([]);
+      is_process = λ n. false;
+      field_count = λ n. 0;
+      field_place = λ n x. 0;
+      is_value_field = λ n k. false;
+      tested_tag = λ n. None;
+      constant = constants 5;
+      ends = λ n. if n == 10 then (record { variable = 3; how = how.Sure } ∷ []) else (if n == 49 then (record { variable = 3; how = how.Sure } ∷ []) else (if n == 52 then (record { variable = 2; how = how.Sure } ∷ []) else (if n == 53 then (record { variable = 1; how = how.Sure } ∷ []) else ([]))));
+      old = λ n v. None;
+      is_lent = false;
     }
 
 abbrev loops_within_loops_tree : MethodTree
@@ -781,29 +781,29 @@ loops_within_loops = refl
 -- A body without statements: `Main.main` of tests/lowered/forms.inko
 abbrev nothing_is_done_site : Site
 nothing_is_done_site =
-    record
-    { variables = 1
-    ; register = λ n. 0
-    ; variable = λ n. 0
-    ; is_value = λ n. if n == 1 then true else (false)
-    ; is_borrow = λ n. false
-    ; is_nil = λ n. if n == 1 then true else (false)
-    ; call = λ n. None
-    ; takes = λ n. false
-    ; is_message = λ n. false
-    ; place = λ n. 0
-    ; kind = λ n. 0
-    ; tag = λ n. 0
-    ; order = λ n. []
-    ; is_process = λ n. false
-    ; field_count = λ n. 0
-    ; field_place = λ n x. 0
-    ; is_value_field = λ n k. false
-    ; tested_tag = λ n. None
-    ; constant = constants 5
-    ; ends = λ n. []
-    ; old = λ n v. None
-    ; is_lent = true
+    record {
+      variables = 1;
+      register = λ n. 0;
+      variable = λ n. 0;
+      is_value = λ n. if n == 1 then true else (false);
+      is_borrow = λ n. false;
+      is_nil = λ n. if n == 1 then true else (false);
+      call = λ n. None;
+      takes = λ n. false;
+      is_message = λ n. false;
+      place = λ n. 0;
+      kind = λ n. 0;
+      tag = λ n. 0;
+      order = λ n. [];
+      is_process = λ n. false;
+      field_count = λ n. 0;
+      field_place = λ n x. 0;
+      is_value_field = λ n k. false;
+      tested_tag = λ n. None;
+      constant = constants 5;
+      ends = λ n. [];
+      old = λ n v. None;
+      is_lent = true;
     }
 
 abbrev nothing_is_done_tree : MethodTree
@@ -815,29 +815,29 @@ nothing_is_done = refl
 -- A jump in a guard, which leaves none of the variables of its arm: `left` of tests/lowered/guards.inko
 abbrev a_return_in_a_guard_site : Site
 a_return_in_a_guard_site =
-    record
-    { variables = 3
-    ; register = λ n. if n == 1 then 0 else (if n == 2 then 1 else (if n == 3 then 2 else (0)))
-    ; variable = λ n. if n == 3 then 3 else (if n == 5 then 3 else (if n == 10 then 2 else (if n == 26 then 1 else (0))))
-    ; is_value = λ n. if n == 2 then true else (if n == 6 then true else (if n == 7 then true else (if n == 8 then true else (if n == 9 then true else (if n == 10 then true else (if n == 11 then true else (if n == 12 then true else (if n == 13 then true else (if n == 21 then true else (if n == 22 then true else (if n == 23 then true else (if n == 24 then true else (if n == 28 then true else (if n == 30 then true else (false)))))))))))))))
-    ; is_borrow = λ n. if n == 5 then true else (false)
-    ; is_nil = λ n. false
-    ; call = λ n. if n == 7 then (Some (target.Row 24)) else (if n == 9 then (Some (target.Row 9)) else (if n == 12 then (Some (target.Row 9)) else (None)))
-    ; takes = λ n. false
-    ; is_message = λ n. false
-    ; place = λ n. if n == 6 then 0 else (0)
-    ; kind = λ n. 0
-    ; tag = λ n. 0
-    ; order = λ n. []
-    ; is_process = λ n. false
-    ; field_count = λ n. if n == 4 then 1 else (0)
-    ; field_place = λ n x. 0
-    ; is_value_field = λ n k. false
-    ; tested_tag = λ n. if n == 4 then (Some 8) else (None)
-    ; constant = constants 5
-    ; ends = λ n. if n == 4 then (record { variable = 3; how = how.Sure } ∷ []) else (if n == 33 then (record { variable = 2; how = how.Sure } ∷ []) else ([]))
-    ; old = λ n v. None
-    ; is_lent = false
+    record {
+      variables = 3;
+      register = λ n. if n == 1 then 0 else (if n == 2 then 1 else (if n == 3 then 2 else (0)));
+      variable = λ n. if n == 3 then 3 else (if n == 5 then 3 else (if n == 10 then 2 else (if n == 26 then 1 else (0))));
+      is_value = λ n. if n == 2 then true else (if n == 6 then true else (if n == 7 then true else (if n == 8 then true else (if n == 9 then true else (if n == 10 then true else (if n == 11 then true else (if n == 12 then true else (if n == 13 then true else (if n == 21 then true else (if n == 22 then true else (if n == 23 then true else (if n == 24 then true else (if n == 28 then true else (if n == 30 then true else (false)))))))))))))));
+      is_borrow = λ n. if n == 5 then true else (false);
+      is_nil = λ n. false;
+      call = λ n. if n == 7 then (Some (target.Row 24)) else (if n == 9 then (Some (target.Row 9)) else (if n == 12 then (Some (target.Row 9)) else (None)));
+      takes = λ n. false;
+      is_message = λ n. false;
+      place = λ n. if n == 6 then 0 else (0);
+      kind = λ n. 0;
+      tag = λ n. 0;
+      order = λ n. [];
+      is_process = λ n. false;
+      field_count = λ n. if n == 4 then 1 else (0);
+      field_place = λ n x. 0;
+      is_value_field = λ n k. false;
+      tested_tag = λ n. if n == 4 then (Some 8) else (None);
+      constant = constants 5;
+      ends = λ n. if n == 4 then (record { variable = 3; how = how.Sure } ∷ []) else (if n == 33 then (record { variable = 2; how = how.Sure } ∷ []) else ([]));
+      old = λ n v. None;
+      is_lent = false;
     }
 
 abbrev a_return_in_a_guard_tree : MethodTree
@@ -849,29 +849,29 @@ a_return_in_a_guard = refl
 -- Patterns within patterns, and a guard that reads two of their parts: `deep` of tests/lowered/guards.inko
 abbrev patterns_within_patterns_site : Site
 patterns_within_patterns_site =
-    record
-    { variables = 5
-    ; register = λ n. if n == 1 then 0 else (if n == 2 then 1 else (if n == 3 then 2 else (if n == 19 then 3 else (if n == 20 then 4 else (0)))))
-    ; variable = λ n. if n == 2 then 2 else (if n == 3 then 3 else (if n == 6 then 3 else (if n == 7 then 2 else (if n == 19 then 19 else (if n == 20 then 20 else (if n == 24 then 20 else (if n == 25 then 19 else (if n == 28 then 1 else (if n == 29 then 3 else (0))))))))))
-    ; is_value = λ n. if n == 3 then true else (if n == 6 then true else (if n == 8 then true else (if n == 9 then true else (if n == 10 then true else (if n == 15 then true else (if n == 19 then true else (if n == 20 then true else (if n == 24 then true else (if n == 25 then true else (if n == 26 then true else (if n == 27 then true else (if n == 29 then true else (if n == 31 then true else (if n == 34 then true else (false)))))))))))))))
-    ; is_borrow = λ n. if n == 7 then true else (false)
-    ; is_nil = λ n. false
-    ; call = λ n. if n == 9 then (Some (target.Row 24)) else (if n == 10 then (Some (target.Row 9)) else (if n == 26 then (Some (target.Row 24)) else (if n == 27 then (Some (target.Row 0)) else (None))))
-    ; takes = λ n. false
-    ; is_message = λ n. false
-    ; place = λ n. if n == 8 then 0 else (0)
-    ; kind = λ n. 0
-    ; tag = λ n. 0
-    ; order = λ n. []
-    ; is_process = λ n. false
-    ; field_count = λ n. if n == 4 then 1 else (if n == 5 then 2 else (if n == 12 then 0 else (if n == 13 then 2 else (if n == 16 then 1 else (if n == 17 then 2 else (if n == 21 then 1 else (if n == 22 then 1 else (if n == 23 then 2 else (0)))))))))
-    ; field_place = λ n x. 0
-    ; is_value_field = λ n k. false
-    ; tested_tag = λ n. if n == 4 then (Some 8) else (if n == 12 then (Some 9) else (if n == 16 then (Some 8) else (if n == 22 then (Some 8) else (None))))
-    ; constant = constants 5
-    ; ends = λ n. if n == 5 then (record { variable = 2; how = how.Sure } ∷ record { variable = 3; how = how.Sure } ∷ []) else ([])
-    ; old = λ n v. None
-    ; is_lent = false
+    record {
+      variables = 5;
+      register = λ n. if n == 1 then 0 else (if n == 2 then 1 else (if n == 3 then 2 else (if n == 19 then 3 else (if n == 20 then 4 else (0)))));
+      variable = λ n. if n == 2 then 2 else (if n == 3 then 3 else (if n == 6 then 3 else (if n == 7 then 2 else (if n == 19 then 19 else (if n == 20 then 20 else (if n == 24 then 20 else (if n == 25 then 19 else (if n == 28 then 1 else (if n == 29 then 3 else (0))))))))));
+      is_value = λ n. if n == 3 then true else (if n == 6 then true else (if n == 8 then true else (if n == 9 then true else (if n == 10 then true else (if n == 15 then true else (if n == 19 then true else (if n == 20 then true else (if n == 24 then true else (if n == 25 then true else (if n == 26 then true else (if n == 27 then true else (if n == 29 then true else (if n == 31 then true else (if n == 34 then true else (false)))))))))))))));
+      is_borrow = λ n. if n == 7 then true else (false);
+      is_nil = λ n. false;
+      call = λ n. if n == 9 then (Some (target.Row 24)) else (if n == 10 then (Some (target.Row 9)) else (if n == 26 then (Some (target.Row 24)) else (if n == 27 then (Some (target.Row 0)) else (None))));
+      takes = λ n. false;
+      is_message = λ n. false;
+      place = λ n. if n == 8 then 0 else (0);
+      kind = λ n. 0;
+      tag = λ n. 0;
+      order = λ n. [];
+      is_process = λ n. false;
+      field_count = λ n. if n == 4 then 1 else (if n == 5 then 2 else (if n == 12 then 0 else (if n == 13 then 2 else (if n == 16 then 1 else (if n == 17 then 2 else (if n == 21 then 1 else (if n == 22 then 1 else (if n == 23 then 2 else (0)))))))));
+      field_place = λ n x. 0;
+      is_value_field = λ n k. false;
+      tested_tag = λ n. if n == 4 then (Some 8) else (if n == 12 then (Some 9) else (if n == 16 then (Some 8) else (if n == 22 then (Some 8) else (None))));
+      constant = constants 5;
+      ends = λ n. if n == 5 then (record { variable = 2; how = how.Sure } ∷ record { variable = 3; how = how.Sure } ∷ []) else ([]);
+      old = λ n v. None;
+      is_lent = false;
     }
 
 abbrev patterns_within_patterns_tree : MethodTree
@@ -883,29 +883,29 @@ patterns_within_patterns = refl
 -- Alternatives that bind, read by a guard and taken apart: `either` of tests/lowered/guards.inko
 abbrev alternatives_that_bind_site : Site
 alternatives_that_bind_site =
-    record
-    { variables = 3
-    ; register = λ n. if n == 1 then 0 else (if n == 2 then 1 else (if n == 7 then 2 else (0)))
-    ; variable = λ n. if n == 2 then 2 else (if n == 3 then 2 else (if n == 7 then 7 else (if n == 8 then 7 else (if n == 12 then 2 else (if n == 17 then 1 else (if n == 18 then 2 else (if n == 20 then 7 else (0))))))))
-    ; is_value = λ n. if n == 13 then true else (if n == 14 then true else (if n == 15 then true else (if n == 16 then true else (false))))
-    ; is_borrow = λ n. if n == 12 then true else (false)
-    ; is_nil = λ n. false
-    ; call = λ n. if n == 14 then (Some (target.Row 24)) else (if n == 16 then (Some (target.Row 9)) else (None))
-    ; takes = λ n. false
-    ; is_message = λ n. false
-    ; place = λ n. if n == 13 then 0 else (0)
-    ; kind = λ n. 0
-    ; tag = λ n. 0
-    ; order = λ n. []
-    ; is_process = λ n. false
-    ; field_count = λ n. if n == 4 then 1 else (if n == 5 then 1 else (if n == 9 then 1 else (if n == 10 then 1 else (0))))
-    ; field_place = λ n x. 0
-    ; is_value_field = λ n k. false
-    ; tested_tag = λ n. if n == 4 then (Some 8) else (if n == 5 then (Some 9) else (if n == 9 then (Some 8) else (if n == 10 then (Some 9) else (None))))
-    ; constant = constants 5
-    ; ends = λ n. []
-    ; old = λ n v. None
-    ; is_lent = false
+    record {
+      variables = 3;
+      register = λ n. if n == 1 then 0 else (if n == 2 then 1 else (if n == 7 then 2 else (0)));
+      variable = λ n. if n == 2 then 2 else (if n == 3 then 2 else (if n == 7 then 7 else (if n == 8 then 7 else (if n == 12 then 2 else (if n == 17 then 1 else (if n == 18 then 2 else (if n == 20 then 7 else (0))))))));
+      is_value = λ n. if n == 13 then true else (if n == 14 then true else (if n == 15 then true else (if n == 16 then true else (false))));
+      is_borrow = λ n. if n == 12 then true else (false);
+      is_nil = λ n. false;
+      call = λ n. if n == 14 then (Some (target.Row 24)) else (if n == 16 then (Some (target.Row 9)) else (None));
+      takes = λ n. false;
+      is_message = λ n. false;
+      place = λ n. if n == 13 then 0 else (0);
+      kind = λ n. 0;
+      tag = λ n. 0;
+      order = λ n. [];
+      is_process = λ n. false;
+      field_count = λ n. if n == 4 then 1 else (if n == 5 then 1 else (if n == 9 then 1 else (if n == 10 then 1 else (0))));
+      field_place = λ n x. 0;
+      is_value_field = λ n k. false;
+      tested_tag = λ n. if n == 4 then (Some 8) else (if n == 5 then (Some 9) else (if n == 9 then (Some 8) else (if n == 10 then (Some 9) else (None))));
+      constant = constants 5;
+      ends = λ n. [];
+      old = λ n v. None;
+      is_lent = false;
     }
 
 abbrev alternatives_that_bind_tree : MethodTree

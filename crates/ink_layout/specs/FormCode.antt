@@ -12,9 +12,9 @@ use Rattle.ink_forms.specs.declared.word.Literal.{Literal}
 use Rattle.ink_forms.specs.declared.word.Literal.TheVariants as literal
 use Rattle.ink_forms.specs.declared.expr.Binding.{Binding}
 use Rattle.ink_forms.specs.declared.expr.Binding.TheVariants as binding
-use Rattle.ink_forms.specs.Trees.{Pat, Term, Spot, Var, SelfValue, Field}
+use Rattle.ink_forms.specs.Trees.{Pat, Term, Var, SelfValue, Field}
 use Rattle.ink_plan.specs.declared.plan.How.{How}
-use Rattle.ink_layout.specs.Pieces.{Site, Point, Made, Piece, at_its_place, behind, choose, does, drop_by, drop_unless_value, drops_held, ends_held, ended, from_mark, giving, goes_on, holds, leaves, leaves_variables, made, next, next_by_failure, nothing, onward, puts, released, stated, takes_operands, then_held, then_with, told_its_end, unless_ended, with_free}
+use Rattle.ink_layout.specs.Pieces.{Site, Made, Piece, at_its_place, behind, choose, does, drop_by, drop_unless_value, drops_held, ends_held, from_mark, giving, goes_on, holds, leaves, leaves_variables, next, next_by_failure, nothing, onward, puts, released, stated, takes_operands, then_held, then_with, told_its_end, unless_ended, with_free}
 use Rattle.ink_layout.specs.PatternCode.{bind, binds, is_tested, tests, views}
 use Rattle.ink_layout.specs.Terms.{number_of, is_self}
 
@@ -126,11 +126,11 @@ root_number m t = number_of t
 abbrev pub root_form : Site → ℕ → Term → Worked → (Root → Piece) → Piece
 root_form m n t part rest =
     choose (is_late m t) (rest Late)
-      (then_with m part.root
-        (λ r.
-          choose (is_whole m t && m.takes n || m.is_value (root_number m t))
-            (behind (holds holding.Operand r) (rest (Taken r)))
-            (behind (holds holding.Temporary r) (rest (Kept r)))))
+    (then_with m part.root
+    (λ r.
+    choose (is_whole m t && m.takes n || m.is_value (root_number m t))
+    (behind (holds holding.Operand r) (rest (Taken r)))
+    (behind (holds holding.Temporary r) (rest (Kept r)))))
 
 -- a value of a field is read as it is, and of anything else a borrow
 abbrev pub field_read : Site → ℕ → Base → Piece
@@ -184,11 +184,11 @@ with_operands m a n t mark root rest =
 abbrev pub message_form : Site → Around → ℕ → Term → ℕ → Root → ℕ → Piece
 message_form m a n t mark root method =
     choose (is_self t)
-      (with_free m
-        (λ to.
-          behind (does (i.MyProc to ∷ []))
-            (behind (holds holding.Operand to) (takes_operands mark (λ all. does (i.Send to method (without to all) ∷ []))))))
-      (with_operands m a n t mark root (λ r others. does (i.Send r method others ∷ [])))
+    (with_free m
+    (λ to.
+    behind (does (i.MyProc to ∷ []))
+    (behind (holds holding.Operand to) (takes_operands mark (λ all. does (i.Send to method (without to all) ∷ []))))))
+    (with_operands m a n t mark root (λ r others. does (i.Send r method others ∷ [])))
 
 -- the rows that are actions, by their numbers in the table of built-in methods
 abbrev pub future_get : ℕ
@@ -207,17 +207,17 @@ stdout_print = 46
 abbrev pub row_form : Site → Around → ℕ → Term → ℕ → Root → ℕ → Piece
 row_form m a n t mark root row =
     choose (row == stdout_print) (found m a t root (λ object. takes_operands mark (λ all. does (i.Print (first_of all) ∷ []))))
-      (with_operands m a n t mark root
-        (λ r others.
-          choose (row == future_get) (puts m (λ to. i.FutureGet to r))
-            (choose (row == promise_set) (does (i.PromiseSet r (first_of others) ∷ []))
-              (puts m (λ to. i.Prim row to (r ∷ others))))))
+    (with_operands m a n t mark root
+    (λ r others.
+    choose (row == future_get) (puts m (λ to. i.FutureGet to r))
+    (choose (row == promise_set) (does (i.PromiseSet r (first_of others) ∷ []))
+    (puts m (λ to. i.Prim row to (r ∷ others))))))
 
 abbrev pub target_form : Site → Around → ℕ → Term → ℕ → Root → Option Target → Piece
 target_form m a n t mark root None = nothing
 target_form m a n t mark root (Some (target.Method method)) =
     choose (m.is_message n) (message_form m a n t mark root method)
-      (with_operands m a n t mark root (λ r others. puts m (λ to. i.Invoke to method (r ∷ others))))
+    (with_operands m a n t mark root (λ r others. puts m (λ to. i.Invoke to method (r ∷ others))))
 target_form m a n t mark root (Some (target.Bound slot)) = with_operands m a n t mark root (λ r others. puts m (λ to. i.InvokeBound to slot (r ∷ others)))
 target_form m a n t mark root (Some (target.Row row)) = row_form m a n t mark root row
 
@@ -235,7 +235,7 @@ field_form m a n t part =
 abbrev pub borrow_form : Site → Around → ℕ → Term → Worked → Piece
 borrow_form m a n t part =
     choose (m.is_value n) part.value
-      (root_form m n t part (λ root. found m a t root (λ object. puts m (λ to. i.Borrow to (register_of object)))))
+    (root_form m n t part (λ root. found m a t root (λ object. puts m (λ to. i.Borrow to (register_of object)))))
 
 -- a form over operands that are held and taken away
 abbrev pub listed_form : Site → List Piece → (List ℕ → Piece) → Piece
@@ -249,14 +249,14 @@ tuple2 = 8
 abbrev pub future_form : Site → Piece
 future_form m =
     from_mark
-      (λ mark.
-        with_free m
-          (λ future.
-            behind (holds holding.Operand future)
-              (with_free m
-                (λ promise.
-                  behind (holds holding.Operand promise)
-                    (behind (does (i.FutureNew future promise ∷ [])) (takes_operands mark (λ fields. puts m (λ to. i.Make to tuple2 0 fields))))))))
+    (λ mark.
+    with_free m
+    (λ future.
+    behind (holds holding.Operand future)
+    (with_free m
+    (λ promise.
+    behind (holds holding.Operand promise)
+    (behind (does (i.FutureNew future promise ∷ [])) (takes_operands mark (λ fields. puts m (λ to. i.Make to tuple2 0 fields))))))))
 
 -- a call of a method of the module, or of a static method
 abbrev pub function_form : Site → Option Target → List ℕ → Piece
@@ -279,10 +279,10 @@ item (x ∷ xs) (suc k) = item xs k
 abbrev pub new_form : Site → ℕ → List ℕ → Piece
 new_form m n all =
     puts m
-      (λ to.
-        if m.is_process n
-        then i.Spawn to (m.kind n) (map (item all) (m.order n))
-        else i.Make to (m.kind n) (m.tag n) (map (item all) (m.order n)))
+    (λ to.
+    if m.is_process n
+    then i.Spawn to (m.kind n) (map (item all) (m.order n))
+    else i.Make to (m.kind n) (m.tag n) (map (item all) (m.order n)))
 
 -- variables that are declared or written, and fields that are written
 
@@ -318,16 +318,16 @@ field_write m Gives place old = giving (given.At old)
 abbrev pub store_form : Site → Around → Write → ℕ → ℕ → Term → Term → Worked → Piece → Piece
 store_form m a w n place t base part value =
     from_mark
-      (λ mark.
-        root_form m n t part
-          (λ root.
-            then_held m holding.Operand value
-              (found m a base root
-                (λ object.
-                  takes_operands mark
-                    (λ all.
-                      with_free m
-                        (λ to. behind (does (i.Store to (register_of object) (m.place place) (first_of all) ∷ [])) (field_write m w place to)))))))
+    (λ mark.
+    root_form m n t part
+    (λ root.
+    then_held m holding.Operand value
+    (found m a base root
+    (λ object.
+    takes_operands mark
+    (λ all.
+    with_free m
+    (λ to. behind (does (i.Store to (register_of object) (m.place place) (first_of all) ∷ [])) (field_write m w place to)))))))
 
 abbrev pub write_form : Site → Around → Write → ℕ → Term → Worked → Piece → Piece
 write_form m a w n (Var s x) part value = then_with m value (variable_write m w n (m.variable s.number))
@@ -352,7 +352,7 @@ moves_to to from = if from == to then [] else (i.Move to from ∷ [])
 abbrev pub side_ends : Site → ℕ → ℕ → ℕ → Given → Piece
 side_ends m n pattern to g =
     unless_ended g
-      (behind (leaves_variables m pattern) (choose (m.is_nil n) nothing (onward m (λ from. does (moves_to to from)) g)))
+    (behind (leaves_variables m pattern) (choose (m.is_nil n) nothing (onward m (λ from. does (moves_to to from)) g)))
 
 abbrev pub side_form : Site → ℕ → ℕ → ℕ → Piece → Piece
 side_form m n pattern to value = released (next (stated value) (side_ends m n pattern to))
@@ -376,16 +376,16 @@ pub record ArmPiece : Type 0 where
 abbrev pub sides_form : Site → ℕ → ℕ → ℕ → Piece → Piece → Piece
 sides_form m n to on on_true on_false =
     told_its_end
-      (λ end.
-        next (told_its_end (λ true_side. behind (does (i.JumpIf on true_side ∷ [])) (next on_false (jumps_on end))))
-          (λ g. next on_true (λ h. giving (chosen m n to (goes_on g || goes_on h)))))
+    (λ end.
+    next (told_its_end (λ true_side. behind (does (i.JumpIf on true_side ∷ [])) (next on_false (jumps_on end))))
+    (λ g. next on_true (λ h. giving (chosen m n to (goes_on g || goes_on h)))))
 
 abbrev pub condition_form : Site → ℕ → Piece → List ArmPiece → Piece
 condition_form m n scrutinee (x ∷ y ∷ others) =
     then_with m (stated scrutinee)
-      (λ on.
-        with_free m
-          (λ to. sides_form m n to on (side_form m n (number_of_pat x.pattern) to x.value) (side_form m n (number_of_pat y.pattern) to y.value)))
+    (λ on.
+    with_free m
+    (λ to. sides_form m n to on (side_form m n (number_of_pat x.pattern) to x.value) (side_form m n (number_of_pat y.pattern) to y.value)))
 condition_form m n scrutinee others = scrutinee
 
 -- where a register holds false, what is tried next stands at a place
@@ -414,9 +414,9 @@ guard_form m r otherwise (Some guard) = then_with m (stated (guard r)) (λ on. f
 abbrev pub arm_chosen : Site → ℕ → Bool → ArmPiece → ℕ → Piece
 arm_chosen m r last x otherwise =
     released
-      (behind (holds holding.Operand r)
-        (next (behind (test_form m r (last && not (is_some x.guard)) x.pattern otherwise) (guard_form m r otherwise x.guard))
-          (λ g. unless_ended g (bind m x.pattern false r))))
+    (behind (holds holding.Operand r)
+    (next (behind (test_form m r (last && not (is_some x.guard)) x.pattern otherwise) (guard_form m r otherwise x.guard))
+    (λ g. unless_ended g (bind m x.pattern false r))))
 
 -- behind an arm it goes on behind all of them, at which the last one stands if it can't fail
 abbrev pub arm_joins : Bool → ℕ → Given → Piece
@@ -426,7 +426,7 @@ arm_joins false end g = jumps_on end g
 abbrev pub arm_form : Site → ℕ → ℕ → ℕ → ℕ → Bool → ArmPiece → ℕ → Piece
 arm_form m n to r end last x otherwise =
     next_by_failure (arm_chosen m r last x otherwise)
-      (λ failed g. unless_ended g (next (side_form m n (number_of_pat x.pattern) to x.value) (arm_joins (last && not failed) end)))
+    (λ failed g. unless_ended g (next (side_form m n (number_of_pat x.pattern) to x.value) (arm_joins (last && not failed) end)))
 
 -- Where no arm is left, nothing is done if some arm went on and the last one can't fail. What isn't met jumps to itself.
 abbrev pub no_arm_left : Bool → Piece
@@ -445,13 +445,13 @@ abbrev pub arms_form : Site → ℕ → ℕ → ℕ → ℕ → Bool → Bool �
 arms_form m n to r end went_on failed [] = arms_end m n to went_on failed
 arms_form m n to r end went_on failed (x ∷ xs) =
     next_by_failure (told_its_end (arm_form m n to r end (is_none xs) x))
-      (λ fails g. choose fails (arms_form m n to r end (went_on || goes_on g) true xs) (arms_end m n to (went_on || goes_on g) false))
+    (λ fails g. choose fails (arms_form m n to r end (went_on || goes_on g) true xs) (arms_end m n to (went_on || goes_on g) false))
 
 -- a choice by patterns; what is matched by its value is a statement
 abbrev pub match_form : Site → ℕ → Term → Piece → List ArmPiece → Piece
 match_form m n t scrutinee arms =
     then_with m (choose (m.is_value (number_of t)) (stated scrutinee) scrutinee)
-      (λ r. with_free m (λ to. answers_failures (told_its_end (λ end. arms_form m n to r end false false arms))))
+    (λ r. with_free m (λ to. answers_failures (told_its_end (λ end. arms_form m n to r end false false arms))))
 
 -- the next turn of a loop
 abbrev pub turn_form : Turn → (Turn → Piece) → Piece
@@ -467,7 +467,7 @@ answers_breaks a u = without_breaks (a u)
 abbrev pub loop_form : (Turn → Piece) → Piece
 loop_form body =
     answers_breaks
-      (told_its_end (λ end. from_mark (λ mark. at_its_place (λ start. turn_form (record { start = start; mark = mark; end = end }) body))))
+    (told_its_end (λ end. from_mark (λ mark. at_its_place (λ start. turn_form (record { start = start; mark = mark; end = end }) body))))
 
 -- exits
 

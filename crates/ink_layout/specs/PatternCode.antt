@@ -8,7 +8,7 @@ use Rattle.ink_emit.specs.declared.held.Holding.TheVariants as holding
 use Rattle.ink_forms.specs.declared.word.Literal.{Literal}
 use Rattle.ink_forms.specs.declared.word.Literal.TheVariants as literal
 use Rattle.ink_forms.specs.Trees.{Pat, Pats, FieldPats, Wildcard, LitPat, Name, Constructor, Either, Fields, NoPat, AndPat, NoField, AndField}
-use Rattle.ink_layout.specs.Pieces.{Site, Piece, at_its_place, behind, choose, does, drop_unless_value, free, giving, holds, nothing, released, told_its_end, told_the_place_between, with_free}
+use Rattle.ink_layout.specs.Pieces.{Site, Piece, at_its_place, behind, choose, does, drop_unless_value, giving, holds, nothing, released, told_its_end, told_the_place_between, with_free}
 
 -- the free register holds something meanwhile, and nothing more is held behind it
 abbrev pub meanwhile : Site → (ℕ → Piece) → Piece
@@ -112,16 +112,16 @@ further before to end = choose before (only_where to end) nothing
 abbrev pub object_test : Site → ℕ → (ℕ → Bool) → (ℕ → Bool → ℕ → Piece) → ℕ → ℕ → Piece
 object_test m n tested part from to =
     told_its_end
-      (λ end.
-        behind (with_free m (λ other. does (tag_test (m.tested_tag n) from to other)))
-          (each_test (m.field_count n) 0 tested (λ k before. part k before end) (has_tag (m.tested_tag n))))
+    (λ end.
+    behind (with_free m (λ other. does (tag_test (m.tested_tag n) from to other)))
+    (each_test (m.field_count n) 0 tested (λ k before. part k before end) (has_tag (m.tested_tag n))))
 
 -- the test of a part, where it is tested: its borrow ends behind the test
 abbrev pub part_test : Site → Pat → Bool → ℕ → ℕ → ℕ → ℕ → (ℕ → Piece) → Piece
 part_test m p before k from to end test =
     choose (is_tested m p)
-      (behind (further before to end) (meanwhile m (λ r. behind (does (i.LoadBorrow r from k ∷ [])) (behind (test r) (end_of_part m p r)))))
-      nothing
+    (behind (further before to end) (meanwhile m (λ r. behind (does (i.LoadBorrow r from k ∷ [])) (behind (test r) (end_of_part m p r)))))
+    nothing
 
 -- a truth value comes into a register
 abbrev pub puts_true : Site → ℕ → Piece
@@ -169,11 +169,11 @@ lends m k from a = meanwhile m (λ r. behind (does (i.LoadBorrow r from k ∷ []
 abbrev pub apart : Site → ℕ → ℕ → (ℕ → ℕ → Piece) → Piece
 apart m n object part =
     with_free m
-      (λ first.
-        released
-          (behind (holds_from first (m.field_count n))
-            (behind (does (i.TakeApart (registers_from first (m.field_count n)) object ∷ []))
-              (each_part (m.field_count n) 0 (λ k. part (first + k) k)))))
+    (λ first.
+    released
+    (behind (holds_from first (m.field_count n))
+    (behind (does (i.TakeApart (registers_from first (m.field_count n)) object ∷ []))
+    (each_part (m.field_count n) 0 (λ k. part (first + k) k)))))
 
 -- the parts of an object are bound below a borrow of it, which ends then
 abbrev pub below : Site → ℕ → ℕ → (ℕ → Piece) → Piece
