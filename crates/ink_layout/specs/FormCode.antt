@@ -12,9 +12,9 @@ use Rattle.ink_forms.specs.declared.word.Literal.{Literal}
 use Rattle.ink_forms.specs.declared.word.Literal.TheVariants as literal
 use Rattle.ink_forms.specs.declared.expr.Binding.{Binding}
 use Rattle.ink_forms.specs.declared.expr.Binding.TheVariants as binding
-use Rattle.ink_forms.specs.Trees.{Pat, Term, Spot, Var, SelfValue, Field}
+use Rattle.ink_forms.specs.Trees.{Pat, Term, Var, SelfValue, Field}
 use Rattle.ink_plan.specs.declared.plan.How.{How}
-use Rattle.ink_layout.specs.Pieces.{Site, Point, Made, Piece, at_its_place, behind, choose, does, drop_by, drop_unless_value, drops_held, ends_held, ended, from_mark, giving, goes_on, holds, leaves, leaves_variables, made, next, next_by_failure, nothing, onward, puts, released, stated, takes_operands, then_held, then_with, told_its_end, unless_ended, with_free}
+use Rattle.ink_layout.specs.Pieces.{Site, Made, Piece, at_its_place, behind, choose, does, drop_by, drop_unless_value, drops_held, ends_held, from_mark, giving, goes_on, holds, leaves, leaves_variables, next, next_by_failure, nothing, onward, puts, released, stated, takes_operands, then_held, then_with, told_its_end, unless_ended, with_free}
 use Rattle.ink_layout.specs.PatternCode.{bind, binds, is_tested, tests, views}
 use Rattle.ink_layout.specs.Terms.{number_of, is_self}
 

@@ -8,7 +8,7 @@ use Rattle.ink_emit.specs.declared.held.Holding.TheVariants as holding
 use Rattle.ink_forms.specs.declared.word.Literal.{Literal}
 use Rattle.ink_forms.specs.declared.word.Literal.TheVariants as literal
 use Rattle.ink_forms.specs.Trees.{Pat, Pats, FieldPats, Wildcard, LitPat, Name, Constructor, Either, Fields, NoPat, AndPat, NoField, AndField}
-use Rattle.ink_layout.specs.Pieces.{Site, Piece, at_its_place, behind, choose, does, drop_unless_value, free, giving, holds, nothing, released, told_its_end, told_the_place_between, with_free}
+use Rattle.ink_layout.specs.Pieces.{Site, Piece, at_its_place, behind, choose, does, drop_unless_value, giving, holds, nothing, released, told_its_end, told_the_place_between, with_free}
 
 -- the free register holds something meanwhile, and nothing more is held behind it
 abbrev pub meanwhile : Site → (ℕ → Piece) → Piece

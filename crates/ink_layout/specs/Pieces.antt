@@ -1,5 +1,5 @@
 -- Pieces of a code: what stands at a place, what it gives, and what is held behind it. Nothing here knows a form.
-use Rattle.std.specs.Prelude.{◌+◌, ◌++◌, ◌∷◌, ◌||◌, ℕ, zero, suc, Bool, true, false, List, [], Option, None, Some, length, take, drop, if◌then◌else◌}
+use Rattle.std.specs.Prelude.{◌+◌, ◌++◌, ◌∷◌, ◌||◌, ℕ, zero, Bool, true, false, List, [], Option, length, take, drop, if◌then◌else◌}
 use Rattle.ink_code.specs.declared.instr.Instr.{Instr}
 use Rattle.ink_code.specs.declared.instr.Instr.TheVariants as i
 use Rattle.ink_findings.specs.declared.typed.Target.{Target}
@@ -10,7 +10,6 @@ use Rattle.ink_emit.specs.declared.given.Given.{Given}
 use Rattle.ink_emit.specs.declared.given.Given.TheVariants as given
 use Rattle.ink_emit.specs.declared.held.Held.{Held}
 use Rattle.ink_emit.specs.declared.held.Holding.{Holding}
-use Rattle.ink_emit.specs.declared.held.Holding.TheVariants as holding
 use Rattle.ink_emit.specs.Bodies as body
 use Rattle.ink_plan.specs.declared.plan.How.{How}
 use Rattle.ink_plan.specs.declared.plan.How.TheVariants as how

@@ -1,6 +1,6 @@
 -- What is asked of an expression without its parts.
 use Rattle.std.specs.Prelude.{ℕ, Bool, true, false}
-use Rattle.ink_forms.specs.Trees.{Term, Spot, Lit, Var, SelfValue, Field, Borrow, Set, Swap, Let, Block, New, Arr, Call, Fn, Static, Match, Loop, Break, Next, Return, Recover, Panic, Drop, Statement}
+use Rattle.ink_forms.specs.Trees.{Term, Lit, Var, SelfValue, Field, Borrow, Set, Swap, Let, Block, New, Arr, Call, Fn, Static, Match, Loop, Break, Next, Return, Recover, Panic, Drop, Statement}
 
 abbrev pub number_of : Term → ℕ
 number_of (Lit s x) = s.number
