@@ -1,5 +1,6 @@
 -- Where an entry can't be made its process has no turn, and no run has the entries up to it.
 use Rattle.std.proofs.Common.{◌≡◌, ℕ, Bool, true, false, Option, None, Some, List, length, refl, ap, sym, ◌∙◌, subst, inl, inr}
+use Rattle.std.specs.Option.{is_some}
 use Rattle.std.specs.Prelude.{nat_le}
 use Rattle.ink_base.specs.declared.limits.Limit.TheVariants as limit
 use Rattle.ink_base.specs.Actions.{Action, Take, Print, Spawn, Send, NewFuture, SetFuture, BreakFuture, GetFuture, Panic, SharedState, as_made, is_enabled}
@@ -23,8 +24,8 @@ use Rattle.ink_post.specs.declared.answer.Answer.{Answer}
 use Rattle.ink_post.specs.declared.answer.Answer.TheVariants as a
 use Rattle.ink_post.specs.declared.post.Post.{Post}
 use Rattle.ink_post.proofs.Slices.{comes_by}
-use Rattle.ink_replay.specs.Calm.{AreAtRest, IsCalm, kept_by}
-use Rattle.ink_replay.specs.Refusals.{FailsStuck, IsStuck}
+use Rattle.ink_replay.specs.Calm.{AreAtRest, IsCalm}
+use Rattle.ink_replay.specs.Refusals.{IsStuck}
 use Rattle.ink_run.specs.Sinks.{SinkState}
 use Rattle.ink_run.specs.Written.{ActsOut, Writes}
 use Rattle.ink_run.specs.declared.applied.Applied.TheVariants as got
@@ -163,8 +164,8 @@ module _ (code : Code) (process : ℕ) (old : Post) (stands : Stands code old) w
   acts_stuck : (new : Post) → ActsAs code process old new a.Waits → IsStuck code process old
   acts_stuck new acts =
       let by = acts.lends stands.0 in
-      let stood = (checks_out M old.limits (opening_run code) (world_of old stands.0) process process acts.p stands.1 by.0 by.1).1 in
-      let comes = comes_by code old.limits old.journal.entries process acts.goes.turns acts.p acts.goes.q acts.goes.stepped stood
+      let out = checks_out M old.limits (opening_run code) (world_of old stands.0) process process acts.p stands.1 by.0 by.1 in
+      let comes = comes_by code old.limits old.journal.entries process acts.goes.turns acts.p acts.goes.q acts.goes.stepped out.1 out.2
       (subst (λ (l : List ℕ). AnswersSlice acts.goes.turns code l acts.goes.stepped acts.p acts.goes.q) acts.limits acts.goes.sliced) in
       came_stuck acts.middle.limits comes.before acts.goes.q (world_of acts.middle stands.0) (world_of new stands.0) comes.stood (told_came (came_with acts.goes.stepped)) comes.from
       (ap (λ (s : CodeState). s.shared) by.2) (acts.goes.checks stands.0)
@@ -185,9 +186,9 @@ fails_waits code process old new before after stands out limits journal =
     stuck_as code process old new limits journal (out_stuck code process old stands out.middle new before after out.answer out.acts out.writes)
 
 -- behind a panic an entry can't be made
-pub fails_kept : (code : Code) (process : ℕ) (new : Post) → Stands code new → FailsStuck code process (kept_by process new.text) new
-fails_kept code process new stands = by_text new.text refl
+pub fails_over : (code : Code) (process : ℕ) (new : Post) → Stands code new → is_some new.text ≡ true → IsStuck code process new
+fails_over code process new stands over = by_text new.text refl over
   where
-    by_text : (o : Option (List ℕ)) → new.text ≡ o → FailsStuck code process (kept_by process o) new
-    by_text None is = tt
-    by_text (Some text) is = stuck_panicked code process new stands text is
+    by_text : (o : Option (List ℕ)) → new.text ≡ o → is_some o ≡ true → IsStuck code process new
+    by_text None is over = absurd (cc)
+    by_text (Some text) is over = stuck_panicked code process new stands text is

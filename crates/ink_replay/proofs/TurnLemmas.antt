@@ -35,9 +35,16 @@ no_text : (panic : Option (ℕ × List ℕ)) → None ≡ panicked panic → tex
 no_text None e = refl
 no_text (Some one) e = absurd (none_some one.0 e)
 
+-- in a run that goes on all are at rest
+calm_goes : (code : Code) (old : Post) → Stands code old → old.halt ≡ None → old.text ≡ None
+calm_goes code old stands is = stands.1.text ∙ no_text stands.1.run.panic (ap panic_in (sym is) ∙ stands.1.panic)
+
+pub goes_rest : (code : Code) (old : Post) → Stands code old → IsCalm old → old.halt ≡ None → AreAtRest old.statuses.items
+goes_rest code old stands calm is = calm (calm_goes code old stands is)
+
 module _ (code : Code) (process : ℕ) (old : Post) (stands : Stands code old) (calm : IsCalm old) where
   calm_text : old.halt ≡ None → old.text ≡ None
-  calm_text is = stands.1.text ∙ no_text stands.1.run.panic (ap panic_in (sym is) ∙ stands.1.panic)
+  calm_text is = calm_goes code old stands is
 
   others_rest : (middle : Post) (p : Process) → middle.statuses.items ≡ set_numbered old.statuses.items process (Out process p.ran) → old.halt ≡ None → OthersAtRest process middle.statuses.items
   others_rest middle p is halt other status differ at =
