@@ -19,10 +19,19 @@ use Rattle.ink_replay.specs.Refusals.{Refuses}
 use Rattle.ink_replay.specs.Stops.{MadeBy}
 use Rattle.ink_replay.specs.declared.replaying.ReplayStop.{ReplayStop}
 use Rattle.ink_replay.specs.declared.replaying.ReplayStop.TheVariants as replay
+use Rattle.ink_rounds.specs.Stops.{stop_in, UnlessWrong as Unless}
+use Rattle.ink_rounds.specs.declared.running.Stop.{Stop}
+use Rattle.ink_rounds.specs.declared.running.Stop.TheVariants as rounds
 use Rattle.ink_worlds.specs.declared.halt.Halt.{Halt}
 use Rattle.ink_worlds.specs.declared.status.Status.{Status}
-use Rattle.ink_commands.specs.Meanings.{CauseMeans, ReplayMeans}
-use Rattle.ink_commands.specs.Runs.{IsPanic, StopsAs, cause_by, replay_cause}
+use Rattle.ink_commands.specs.Meanings.{CauseMeans, MeansWrong, ReplayMeans}
+use Rattle.ink_commands.specs.Runs.{IsPanic, StopsAs, cause_by, replay_cause, rounds_cause}
+use Rattle.ink_commands.proofs.Written.{stop_end}
+
+wrong_means_in : (code : Code) (limits : List ℕ) (rounds : Option ℕ) (journal : List ℕ) (process : ℕ) → Ends code limits journal (end.Wrong process)
+    → MeansWrong rounds code limits journal process
+wrong_means_in code limits None journal process ends = ends
+wrong_means_in code limits (Some most) journal process ends = tt
 
 -- an end means the cause that it is
 pub end_means : (code : Code) (limits : List ℕ) (rounds : Option ℕ) (journal : List ℕ) (found : End) → Ends code limits journal found
@@ -33,7 +42,7 @@ end_means code limits rounds journal (end.Panicked process) ends = ends
 end_means code limits rounds journal end.SinkFailed ends = tt
 end_means code limits rounds journal (end.Events process) ends = ends
 end_means code limits rounds journal (end.Local process steps) ends = ends
-end_means code limits rounds journal (end.Wrong process) ends = ends
+end_means code limits rounds journal (end.Wrong process) ends = wrong_means_in code limits rounds journal process ends
 
 pub ended_means : (cause : Cause) (code : Code) (post : Post) (found : End) → Some found ≡ end_in post.halt post.wrong post.statuses.items → Stands code post
     → post.wrong ≡ None → cause ≡ cause_by found → CauseMeans code post.limits None post.journal.entries cause
@@ -62,6 +71,91 @@ pub wrong_means : (code : Code) (process : ℕ) (old new : Post) → new.limits 
     → Ends code old.limits old.journal.entries (end.Wrong process) → CauseMeans code new.limits None new.journal.entries (Wrong process)
 wrong_means code process old new limits journal ends =
     ends_same code new.limits old.limits new.journal.entries old.journal.entries (end.Wrong process) (sym limits) (sym journal) ends
+
+-- the stop of a run in rounds
+
+-- an end at which no code was found wrong is the end where none was
+right_end : (by : Option Halt) (wrong : Option ℕ) (statuses : List Status) (found : End) → ((process : ℕ) → found ≡ end.Wrong process → ⊥)
+    → Some found ≡ end_in by wrong statuses → Some found ≡ end_in by None statuses
+right_end (Some ended) wrong statuses found differ is = is
+right_end None None statuses found differ is = is
+right_end None (Some process) statuses found differ is = absurd (differ process (some_is found (end.Wrong process) is))
+
+-- a world as it is where no code was found wrong
+abbrev righted : Post → Post
+righted post = record {
+  homes = post.homes;
+  statuses = post.statuses;
+  mail = post.mail;
+  futures = post.futures;
+  journal = post.journal;
+  text = post.text;
+  halt = post.halt;
+  wrong = None;
+  limits = post.limits;
+  alloc = post.alloc;
+  few = post.few;
+  homes_level = post.homes_level;
+  mail_level = post.mail_level;
+}
+
+right_means : (code : Code) (post : Post) (found : End) → ((process : ℕ) → found ≡ end.Wrong process → ⊥)
+    → Some found ≡ end_in post.halt post.wrong post.statuses.items → Stands code post → Ends code post.limits post.journal.entries found
+right_means code post found differ is stands =
+    ends_mean code (righted post) (Some found) (right_end post.halt post.wrong post.statuses.items found differ is) stands refl
+
+limit_is : (budget limit : ℕ) (found : Option End) → rounds.RoundLimit limit ≡ stop_in budget found → Some budget ≡ Some limit
+limit_is budget limit None is = cc
+limit_is budget limit (Some found) is = absurd (cc)
+
+rounds_mean : (code : Code) (post : Post) (budget : ℕ) (stop : Stop) → Unless stop (stop ≡ stop_in budget (end_in post.halt post.wrong post.statuses.items))
+    → Unless stop (Stands code post) → CauseMeans code post.limits (Some budget) post.journal.entries (rounds_cause stop)
+rounds_mean code post budget (rounds.Ended end.Quiet) is stands =
+    right_means code post end.Quiet (λ process e. cc) (stop_end budget _ end.Quiet is) stands
+rounds_mean code post budget (rounds.Ended (end.Waiting process)) is stands =
+    right_means code post (end.Waiting process) (λ other e. cc) (stop_end budget _ (end.Waiting process) is) stands
+rounds_mean code post budget (rounds.Ended (end.Panicked process)) is stands =
+    right_means code post (end.Panicked process) (λ other e. cc) (stop_end budget _ (end.Panicked process) is) stands
+rounds_mean code post budget (rounds.Ended end.SinkFailed) is stands = tt
+rounds_mean code post budget (rounds.Ended (end.Events process)) is stands =
+    right_means code post (end.Events process) (λ other e. cc) (stop_end budget _ (end.Events process) is) stands
+rounds_mean code post budget (rounds.Ended (end.Local process steps)) is stands =
+    right_means code post (end.Local process steps) (λ other e. cc) (stop_end budget _ (end.Local process steps) is) stands
+rounds_mean code post budget (rounds.Ended (end.Wrong process)) is stands = tt
+rounds_mean code post budget (rounds.RoundLimit limit) is stands = limit_is budget limit _ is
+
+-- with the limits of before
+rounds_mean_on : (code : Code) (old new : Post) (budget : ℕ) (stop : Stop) → Unless stop (new.limits ≡ old.limits)
+    → CauseMeans code new.limits (Some budget) new.journal.entries (rounds_cause stop)
+    → CauseMeans code old.limits (Some budget) new.journal.entries (rounds_cause stop)
+rounds_mean_on code old new budget (rounds.Ended (end.Wrong process)) limits means = tt
+rounds_mean_on code old new budget (rounds.Ended end.Quiet) limits means = ends_same code old.limits new.limits new.journal.entries new.journal.entries end.Quiet limits refl means
+rounds_mean_on code old new budget (rounds.Ended (end.Waiting process)) limits means =
+    ends_same code old.limits new.limits new.journal.entries new.journal.entries (end.Waiting process) limits refl means
+rounds_mean_on code old new budget (rounds.Ended (end.Panicked process)) limits means =
+    ends_same code old.limits new.limits new.journal.entries new.journal.entries (end.Panicked process) limits refl means
+rounds_mean_on code old new budget (rounds.Ended end.SinkFailed) limits means = tt
+rounds_mean_on code old new budget (rounds.Ended (end.Events process)) limits means =
+    ends_same code old.limits new.limits new.journal.entries new.journal.entries (end.Events process) limits refl means
+rounds_mean_on code old new budget (rounds.Ended (end.Local process steps)) limits means =
+    ends_same code old.limits new.limits new.journal.entries new.journal.entries (end.Local process steps) limits refl means
+rounds_mean_on code old new budget (rounds.RoundLimit limit) limits means = means
+
+pub rounds_stopped_means : (code : Code) (old new : Post) (budget : ℕ) (stop : Stop) (stopped cause : Cause) (journal : List ℕ) → StopsAs stopped cause
+    → stopped ≡ rounds_cause stop → journal ≡ new.journal.entries → Unless stop (stop ≡ stop_in budget (end_in new.halt new.wrong new.statuses.items))
+    → Unless stop (Stands code new) → Unless stop (new.limits ≡ old.limits) → CauseMeans code old.limits (Some budget) journal cause
+rounds_stopped_means code old new budget stop stopped cause journal taken is same ends stands limits =
+    let here : CauseMeans code old.limits (Some budget) new.journal.entries (rounds_cause stop) =
+    rounds_mean_on code old new budget stop limits (rounds_mean code new budget stop ends stands) in
+    subst (λ (j : List ℕ). CauseMeans code old.limits (Some budget) j cause) (sym same)
+    (means_as stopped cause code old.limits (Some budget) new.journal.entries taken
+    (subst (λ (c : Cause). CauseMeans code old.limits (Some budget) new.journal.entries c) (sym is) here))
+
+-- without memory a run in rounds means nothing further
+pub memory_means : (cause : Cause) (code : Code) (limits : List ℕ) (rounds : Option ℕ) (journal : List ℕ) → StopsAs OutOfMemory cause
+    → CauseMeans code limits rounds journal cause
+memory_means cause code limits rounds journal is =
+    means_as OutOfMemory cause code limits rounds journal is (let none : CauseMeans code limits rounds journal OutOfMemory = tt in none)
 
 -- the stop of a replay
 

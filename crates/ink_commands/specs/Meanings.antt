@@ -1,5 +1,5 @@
 -- What the cause means that a run or a replay stopped for.
-use Rattle.std.specs.Prelude.{◌≡◌, ℕ, List, Option, Some, take}
+use Rattle.std.specs.Prelude.{◌≡◌, ℕ, List, Option, None, Some, take}
 use Rattle.ink_causes.specs.declared.cause.Cause.{Cause}
 use Rattle.ink_causes.specs.declared.cause.Cause.TheVariants.{Quiet, WriteFault, OutOfMemory, Waiting, EventLimit, LocalLimit, RoundLimit, JournalEnds, BadEntry, Panicked, Wrong}
 use Rattle.ink_code.specs.declared.code.Code.{Code}
@@ -10,6 +10,11 @@ use Rattle.ink_replay.specs.Entries.{Begins, IsNext, NextIs}
 use Rattle.ink_replay.specs.Refusals.{IsNoJournal}
 use Rattle.ink_replay.specs.Stops.{IsAtEntry, IsSpentAt}
 
+-- A code that was found wrong after the turns of its journal. Of a run in rounds it isn't claimed.
+abbrev pub MeansWrong : Option ℕ → Code → List ℕ → List ℕ → ℕ → Type 0
+MeansWrong None code limits journal process = Ends code limits journal (end.Wrong process)
+MeansWrong (Some most) code limits journal process = Unit {0}
+
 -- How the run of a code stands behind the turns of its journal, where it stopped for this cause. What went out is said
 -- apart from it, and without memory a run may stop anywhere.
 abbrev pub CauseMeans : Code → List ℕ → Option ℕ → List ℕ → Cause → Type 0
@@ -18,7 +23,7 @@ CauseMeans code limits rounds journal (Waiting process) = Ends code limits journ
 CauseMeans code limits rounds journal (Panicked process) = Ends code limits journal (end.Panicked process)
 CauseMeans code limits rounds journal (EventLimit process) = Ends code limits journal (end.Events process)
 CauseMeans code limits rounds journal (LocalLimit process steps) = Ends code limits journal (end.Local process steps)
-CauseMeans code limits rounds journal (Wrong process) = Ends code limits journal (end.Wrong process)
+CauseMeans code limits rounds journal (Wrong process) = MeansWrong rounds code limits journal process
 CauseMeans code limits rounds journal (RoundLimit most) = rounds ≡ Some most
 CauseMeans code limits rounds journal cause = Unit {0}
 
