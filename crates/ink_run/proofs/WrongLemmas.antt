@@ -6,7 +6,7 @@ use Rattle.ink_post.specs.declared.answer.Answer.{Answer}
 use Rattle.ink_post.specs.declared.answer.Answer.TheVariants as a
 use Rattle.ink_post.specs.declared.post.Post.{Post}
 use Rattle.ink_run.specs.Sinks.{SinkState}
-use Rattle.ink_run.specs.Written.{TellsWrong, Writes, WritesLine, applied_of, wrong_by}
+use Rattle.ink_run.specs.Written.{TellsWrong, Writes, WritesLine, wrong_by}
 use Rattle.ink_run.specs.declared.applied.Applied.{Applied}
 use Rattle.ink_run.specs.declared.applied.Applied.TheVariants as applied
 

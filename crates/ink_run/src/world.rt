@@ -143,6 +143,7 @@ impl<K: Sink + Drop> World<K> {
         ensures written { IfOk result (λ applied. StaysWritten code.now self.old.post self.new.post (sink_of K.contents K.faults self.old.sink) (sink_of K.contents K.faults self.new.sink) applied) }
         ensures stands { IfOk result (λ applied. StandsOn code.now self.new.post applied) }
         ensures again { OnErr result (Stands code.now self.new.post) }
+        ensures same { OnErr result (Same self.old.post self.new.post) }
         ensures memory { OnErr result (WantsMemory (told_came came)) }
         ensures still { OnErr result (KeepsWritten code.now self.old.post self.new.post (sink_of K.contents K.faults self.old.sink) (sink_of K.contents K.faults self.new.sink)) }
         ensures gives { IfErr result (λ fault. IsComing code.now self.new.post process seat home.GivesUp (state_of fault.proc)) }

@@ -3,6 +3,9 @@ use Rattle.ink_run.proofs.Stays.{same_written, stands_written, stays_written}
 use Rattle.ink_run.proofs.WrongLemmas.{writes_tell, writes_wrong}
 use Rattle.ink_run.proofs.world.World.check_in.Goals as goal
 
+pub returns-in-Err-clause-same : goal.returns-in-Err-clause-same
+returns-in-Err-clause-same g c = c.in-Err.ensures.checks.0.0
+
 pub returns-in-Err-clause-still : goal.returns-in-Err-clause-still
 returns-in-Err-clause-still g c = same_written c.args.code.now c.args.self.now.post c.check_in.new.self _ c.in-Err.ensures.checks.0.0 c.check_in.ensures.limits
 
