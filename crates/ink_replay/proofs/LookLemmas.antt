@@ -1,5 +1,5 @@
 -- What a look finds: a process that can go on, or one that made all steps that it may make.
-use Rattle.std.proofs.Common.{◌≡◌, ◌≢◌, ◌<◌, ℕ, zero, suc, ◌+◌, Bool, true, false, Option, None, Some, Result, Ok, Err, List, [], get_or, inl, inr, refl, ap, sym, ◌∙◌, subst, arith}
+use Rattle.std.proofs.Common.{◌≡◌, ◌<◌, ℕ, zero, suc, ◌+◌, Bool, true, false, Option, None, Some, Result, Ok, Err, List, [], get_or, inl, inr, refl, ap, sym, ◌∙◌, subst, arith}
 use Rattle.std.specs.List.{position, slice_get}
 use Rattle.std.specs.Option.{option_map}
 use Rattle.std.proofs.lemmas.List.Quantifiers.{position-Some}
@@ -15,7 +15,7 @@ use Rattle.ink_law_replays.specs.Next.{IsReady, Waits}
 use Rattle.ink_law_runs.specs.CodeMachine.{code_machine, opening_run}
 use Rattle.ink_law_turns.specs.Ahead.{StandsAt}
 use Rattle.ink_law_turns.specs.Machines.{Machine}
-use Rattle.ink_law_turns.specs.Turns.{Run, Turns}
+use Rattle.ink_law_turns.specs.Turns.{Run}
 use Rattle.ink_law_turns.proofs.Numbering.{none_some, numbered-set_other, numbered-suc, numbered_level, some_is}
 use Rattle.ink_post.specs.Asks.{ComesAs, came_with, told_came}
 use Rattle.ink_post.specs.Turning.{LooksAs, SeesBy, SeesWish}

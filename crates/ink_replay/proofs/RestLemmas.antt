@@ -11,7 +11,7 @@ use Rattle.ink_post.specs.declared.answer.End.{End}
 use Rattle.ink_post.specs.declared.answer.End.TheVariants as end
 use Rattle.ink_post.specs.declared.post.Post.{Post}
 use Rattle.ink_post.proofs.MeaningLemmas.{ends_mean}
-use Rattle.ink_replay.specs.Ends.{EndsAs, Means, StopsAt}
+use Rattle.ink_replay.specs.Ends.{EndsAs, StopsAt}
 use Rattle.ink_replay.specs.Entries.{EndsIn, KeepsTo}
 use Rattle.ink_replay.specs.Keeps.{GotWhole, IsUncut, Keeps, StopsWrong}
 use Rattle.ink_replay.specs.Refusals.{Refuses}

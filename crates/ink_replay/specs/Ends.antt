@@ -1,5 +1,5 @@
 -- How a run stands where its replay stops.
-use Rattle.std.specs.Prelude.{◌≡◌, ◌<◌, ℕ, Option, None, Some, List}
+use Rattle.std.specs.Prelude.{◌≡◌, ◌<◌, ℕ, Some, List}
 use Rattle.ink_code.specs.declared.code.Code.{Code}
 use Rattle.ink_code.specs.Process.{Process}
 use Rattle.ink_code.specs.Trees.{Parcel}
