@@ -86,7 +86,7 @@ module _ (code : Code) where
       (subst (λ (q : Process). IsComing code post number number c.Went q) (sym holds) (record {
         ran = p.ran;
         lent = lent.lent;
-        comes = record { before = p; stood = lent.stood; from = refl };
+        comes = record { before = p; stood = lent.stood; within = lent.within; from = refl };
       }))
 
   -- where nothing is told otherwise the same are lent
