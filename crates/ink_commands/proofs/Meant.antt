@@ -186,7 +186,7 @@ replay_stopped_means code limits entries post stop stopped cause journal taken i
     let here : ReplayMeans code limits entries made_to stopped =
     subst (λ (c : Cause). ReplayMeans code limits entries made_to c) (sym is) (replay_means code limits entries made_to stop means made refuses) in
     subst (λ (j : List ℕ). ReplayMeans code limits entries j cause) (sym same) (elim taken [
-      | inl as ↦ subst (λ (c : Cause). ReplayMeans code limits entries made_to c) (sym as) here
+      | inl alike ↦ subst (λ (c : Cause). ReplayMeans code limits entries made_to c) (sym alike) here
       | inr memory ↦ (let begins : ReplayMeans code limits entries made_to OutOfMemory = panic_begins stopped code limits entries made_to memory.1 here in
           subst (λ (c : Cause). ReplayMeans code limits entries made_to c) (sym memory.0) begins)
     ])

@@ -80,8 +80,8 @@ pub stopped_reports : (stopped cause : Cause) (code : Code) (post : Post) (limit
     → ReportsOf cause code post report → journal ≡ post.journal.entries → post.limits ≡ limits → Reports cause code limits journal report
 stopped_reports stopped cause code post limits journal report is stands told same right =
     let here : Reports cause code post.limits post.journal.entries report = elim is [
-      | inl as ↦ subst (λ (c : Cause). Reports c code post.limits post.journal.entries report) (sym as)
-          (reports_by stopped code post report stands (subst (λ (c : Cause). ReportsOf c code post report) as told))
+      | inl alike ↦ subst (λ (c : Cause). Reports c code post.limits post.journal.entries report) (sym alike)
+          (reports_by stopped code post report stands (subst (λ (c : Cause). ReportsOf c code post report) alike told))
       | inr memory ↦ (let none : Reports OutOfMemory code post.limits post.journal.entries report = tt in
           subst (λ (c : Cause). Reports c code post.limits post.journal.entries report) (sym memory.0) none)
     ] in
@@ -149,58 +149,58 @@ none_reports stopped cause code limits journal report is none = elim is [
 rounds_report : (code : Code) (old new : Post) (budget : ℕ) (stop : Stop) (cause : Cause) (journal report : List ℕ) → StopsAs (rounds_cause stop) cause
     → ReportsOf cause code new report → journal ≡ new.journal.entries → Unless stop (stop ≡ stop_in budget (end_in new.halt new.wrong new.statuses.items))
     → Unless stop (Stands code new) → Unless stop (new.limits ≡ old.limits) → Reports cause code old.limits journal report
-rounds_report code old new budget (rounds.Ended (end.Panicked process)) cause journal report as told same ends stands limits =
-    stopped_reports (Panicked process) cause code new old.limits journal report as
+rounds_report code old new budget (rounds.Ended (end.Panicked process)) cause journal report alike told same ends stands limits =
+    stopped_reports (Panicked process) cause code new old.limits journal report alike
     (stands, halted_by new.halt new.wrong new.statuses.items process (stop_end budget _ (end.Panicked process) ends)) told same limits
-rounds_report code old new budget (rounds.Ended end.Quiet) cause journal report as told same ends stands limits =
-    none_reports (cause_by end.Quiet) cause code old.limits journal report as (λ none. none)
-rounds_report code old new budget (rounds.Ended (end.Waiting process)) cause journal report as told same ends stands limits =
-    none_reports (cause_by (end.Waiting process)) cause code old.limits journal report as (λ none. none)
-rounds_report code old new budget (rounds.Ended end.SinkFailed) cause journal report as told same ends stands limits =
-    none_reports (cause_by end.SinkFailed) cause code old.limits journal report as (λ none. none)
-rounds_report code old new budget (rounds.Ended (end.Events process)) cause journal report as told same ends stands limits =
-    none_reports (cause_by (end.Events process)) cause code old.limits journal report as (λ none. none)
-rounds_report code old new budget (rounds.Ended (end.Local process steps)) cause journal report as told same ends stands limits =
-    none_reports (cause_by (end.Local process steps)) cause code old.limits journal report as (λ none. none)
-rounds_report code old new budget (rounds.Ended (end.Wrong process)) cause journal report as told same ends stands limits =
-    none_reports (cause_by (end.Wrong process)) cause code old.limits journal report as (λ none. none)
-rounds_report code old new budget (rounds.RoundLimit limit) cause journal report as told same ends stands limits =
-    none_reports (RoundLimit limit) cause code old.limits journal report as (λ none. none)
+rounds_report code old new budget (rounds.Ended end.Quiet) cause journal report alike told same ends stands limits =
+    none_reports (cause_by end.Quiet) cause code old.limits journal report alike (λ none. none)
+rounds_report code old new budget (rounds.Ended (end.Waiting process)) cause journal report alike told same ends stands limits =
+    none_reports (cause_by (end.Waiting process)) cause code old.limits journal report alike (λ none. none)
+rounds_report code old new budget (rounds.Ended end.SinkFailed) cause journal report alike told same ends stands limits =
+    none_reports (cause_by end.SinkFailed) cause code old.limits journal report alike (λ none. none)
+rounds_report code old new budget (rounds.Ended (end.Events process)) cause journal report alike told same ends stands limits =
+    none_reports (cause_by (end.Events process)) cause code old.limits journal report alike (λ none. none)
+rounds_report code old new budget (rounds.Ended (end.Local process steps)) cause journal report alike told same ends stands limits =
+    none_reports (cause_by (end.Local process steps)) cause code old.limits journal report alike (λ none. none)
+rounds_report code old new budget (rounds.Ended (end.Wrong process)) cause journal report alike told same ends stands limits =
+    none_reports (cause_by (end.Wrong process)) cause code old.limits journal report alike (λ none. none)
+rounds_report code old new budget (rounds.RoundLimit limit) cause journal report alike told same ends stands limits =
+    none_reports (RoundLimit limit) cause code old.limits journal report alike (λ none. none)
 
 pub rounds_reports : (code : Code) (old new : Post) (budget : ℕ) (stop : Stop) (stopped cause : Cause) (journal report : List ℕ) → StopsAs stopped cause
     → stopped ≡ rounds_cause stop → ReportsOf cause code new report → journal ≡ new.journal.entries
     → Unless stop (stop ≡ stop_in budget (end_in new.halt new.wrong new.statuses.items)) → Unless stop (Stands code new)
     → Unless stop (new.limits ≡ old.limits) → Reports cause code old.limits journal report
-rounds_reports code old new budget stop stopped cause journal report as is told same ends stands limits =
-    rounds_report code old new budget stop cause journal report (subst (λ (c : Cause). StopsAs c cause) is as) told same ends stands limits
+rounds_reports code old new budget stop stopped cause journal report alike is told same ends stands limits =
+    rounds_report code old new budget stop cause journal report (subst (λ (c : Cause). StopsAs c cause) is alike) told same ends stands limits
 
 -- a replay
 
 replay_report : (code : Code) (post : Post) (stop : ReplayStop) (cause : Cause) (limits journal report : List ℕ) → StopsAs (replay_cause stop) cause
     → ReportsOf cause code post report → journal ≡ post.journal.entries → StopsAt stop post → UnlessIt stop (Stands code post)
     → post.limits ≡ limits → Reports cause code limits journal report
-replay_report code post (replay.Ended (end.Panicked process)) cause limits journal report as told same ends stands right =
-    stopped_reports (Panicked process) cause code post limits journal report as
+replay_report code post (replay.Ended (end.Panicked process)) cause limits journal report alike told same ends stands right =
+    stopped_reports (Panicked process) cause code post limits journal report alike
     (stands, halted_by post.halt post.wrong post.statuses.items process (sym ends)) told same right
-replay_report code post (replay.Ended end.Quiet) cause limits journal report as told same ends stands right =
-    none_reports (cause_by end.Quiet) cause code limits journal report as (λ none. none)
-replay_report code post (replay.Ended (end.Waiting process)) cause limits journal report as told same ends stands right =
-    none_reports (cause_by (end.Waiting process)) cause code limits journal report as (λ none. none)
-replay_report code post (replay.Ended end.SinkFailed) cause limits journal report as told same ends stands right =
-    none_reports (cause_by end.SinkFailed) cause code limits journal report as (λ none. none)
-replay_report code post (replay.Ended (end.Events process)) cause limits journal report as told same ends stands right =
-    none_reports (cause_by (end.Events process)) cause code limits journal report as (λ none. none)
-replay_report code post (replay.Ended (end.Local process steps)) cause limits journal report as told same ends stands right =
-    none_reports (cause_by (end.Local process steps)) cause code limits journal report as (λ none. none)
-replay_report code post (replay.Ended (end.Wrong process)) cause limits journal report as told same ends stands right =
-    none_reports (cause_by (end.Wrong process)) cause code limits journal report as (λ none. none)
-replay_report code post (replay.JournalEnds process) cause limits journal report as told same ends stands right =
-    none_reports (JournalEnds process) cause code limits journal report as (λ none. none)
-replay_report code post (replay.BadEntry entry) cause limits journal report as told same ends stands right =
-    none_reports (BadEntry entry) cause code limits journal report as (λ none. none)
+replay_report code post (replay.Ended end.Quiet) cause limits journal report alike told same ends stands right =
+    none_reports (cause_by end.Quiet) cause code limits journal report alike (λ none. none)
+replay_report code post (replay.Ended (end.Waiting process)) cause limits journal report alike told same ends stands right =
+    none_reports (cause_by (end.Waiting process)) cause code limits journal report alike (λ none. none)
+replay_report code post (replay.Ended end.SinkFailed) cause limits journal report alike told same ends stands right =
+    none_reports (cause_by end.SinkFailed) cause code limits journal report alike (λ none. none)
+replay_report code post (replay.Ended (end.Events process)) cause limits journal report alike told same ends stands right =
+    none_reports (cause_by (end.Events process)) cause code limits journal report alike (λ none. none)
+replay_report code post (replay.Ended (end.Local process steps)) cause limits journal report alike told same ends stands right =
+    none_reports (cause_by (end.Local process steps)) cause code limits journal report alike (λ none. none)
+replay_report code post (replay.Ended (end.Wrong process)) cause limits journal report alike told same ends stands right =
+    none_reports (cause_by (end.Wrong process)) cause code limits journal report alike (λ none. none)
+replay_report code post (replay.JournalEnds process) cause limits journal report alike told same ends stands right =
+    none_reports (JournalEnds process) cause code limits journal report alike (λ none. none)
+replay_report code post (replay.BadEntry entry) cause limits journal report alike told same ends stands right =
+    none_reports (BadEntry entry) cause code limits journal report alike (λ none. none)
 
 pub replay_reports : (code : Code) (post : Post) (stop : ReplayStop) (stopped cause : Cause) (limits journal report : List ℕ) → StopsAs stopped cause
     → stopped ≡ replay_cause stop → ReportsOf cause code post report → journal ≡ post.journal.entries → StopsAt stop post
     → UnlessIt stop (Stands code post) → post.limits ≡ limits → Reports cause code limits journal report
-replay_reports code post stop stopped cause limits journal report as is told same ends stands right =
-    replay_report code post stop cause limits journal report (subst (λ (c : Cause). StopsAs c cause) is as) told same ends stands right
+replay_reports code post stop stopped cause limits journal report alike is told same ends stands right =
+    replay_report code post stop cause limits journal report (subst (λ (c : Cause). StopsAs c cause) is alike) told same ends stands right
