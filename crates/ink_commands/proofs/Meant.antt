@@ -1,11 +1,10 @@
 -- What the cause means that a run stopped for, from what its world says of its end.
-use Rattle.std.proofs.Common.{◌≡◌, ℕ, inl, inr, List, Option, None, Some, refl, sym, ap, subst, ◌∙◌, length, take}
-use Rattle.std.specs.Prelude.{IfSome}
+use Rattle.std.proofs.Common.{◌≡◌, ℕ, inl, inr, List, Option, None, Some, refl, sym, subst, length, take}
 use Rattle.std.proofs.Math.Seq.{take-length}
 use Rattle.ink_causes.specs.declared.cause.Cause.{Cause}
-use Rattle.ink_causes.specs.declared.cause.Cause.TheVariants.{OutOfMemory, Panicked, RoundLimit, Wrong}
+use Rattle.ink_causes.specs.declared.cause.Cause.TheVariants.{OutOfMemory, Panicked, Wrong}
 use Rattle.ink_code.specs.declared.code.Code.{Code}
-use Rattle.ink_law_turns.proofs.Numbering.{none_some, some_is}
+use Rattle.ink_law_turns.proofs.Numbering.{some_is}
 use Rattle.ink_post.proofs.MeaningLemmas.{ends_mean, ends_same}
 use Rattle.ink_post.specs.Ends.{end_in}
 use Rattle.ink_post.specs.Meaning.{Ends}

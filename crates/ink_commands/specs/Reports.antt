@@ -1,5 +1,5 @@
 -- The report of a panic.
-use Rattle.std.specs.Prelude.{◌≡◌, ℕ, List, [], Option, None, Some}
+use Rattle.std.specs.Prelude.{◌≡◌, ℕ, List, [], Option, Some}
 use Rattle.ink_base.specs.Numbered.{numbered}
 use Rattle.ink_code.specs.Process.{Process}
 use Rattle.ink_code.specs.Trees.{Parcel}

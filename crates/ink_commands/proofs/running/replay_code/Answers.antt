@@ -1,6 +1,6 @@
 use Rattle.ink_commands.proofs.Meant.{replay_stopped_means}
 use Rattle.ink_commands.proofs.Reported.{replay_reports}
-use Rattle.ink_commands.proofs.Written.{replay_stopped, stops_replay_as, whole_replays}
+use Rattle.ink_commands.proofs.Written.{replay_stopped, stops_replay_as}
 use Rattle.ink_commands.proofs.running.replay_code.Goals as goal
 
 pub returns-in-Ok-clause-replayed : goal.returns-in-Ok-clause-replayed
