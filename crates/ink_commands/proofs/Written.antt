@@ -14,7 +14,8 @@ use Rattle.ink_post.specs.declared.answer.End.{End}
 use Rattle.ink_post.specs.declared.answer.End.TheVariants as end
 use Rattle.ink_post.specs.declared.post.Post.{Post}
 use Rattle.ink_replay.specs.Ends.{StopsAt}
-use Rattle.ink_replay.specs.Stops.{UnlessWrong as UnlessIt}
+use Rattle.ink_replay.specs.Keeps.{GotWhole}
+use Rattle.ink_replay.specs.Stops.{UnlessWrong as UnlessIt, WroteBy}
 use Rattle.ink_replay.specs.declared.replaying.ReplayStop.{ReplayStop}
 use Rattle.ink_replay.specs.declared.replaying.ReplayStop.TheVariants as replay
 use Rattle.ink_rounds.specs.Homes.{LeavesOn}
@@ -27,7 +28,7 @@ use Rattle.ink_statuses.specs.Readings.{is_held}
 use Rattle.ink_worlds.specs.declared.halt.Halt.{Halt}
 use Rattle.ink_worlds.specs.declared.halt.Halt.TheVariants as halt
 use Rattle.ink_worlds.specs.declared.status.Status.{Status}
-use Rattle.ink_commands.specs.Runs.{IsPanic, IsUncut, RanCode, Replays, ReplaysCut, ReplaysSome, WroteReplay, WroteRounds, replay_cause, rounds_cause, StopsAs, StopsAtOnce, StillReplays, StopsReplay, StopsRun, WritesUpTo, Wrote, WroteAll, WroteFrom, cause_by, seen}
+use Rattle.ink_commands.specs.Runs.{IsPanic, IsUncut, RanCode, Replays, ReplaysCut, ReplaysSome, WroteRounds, replay_cause, rounds_cause, StopsAs, StopsAtOnce, StillReplays, StopsReplay, StopsRun, WritesUpTo, Wrote, WroteAll, WroteFrom, cause_by, seen}
 
 pub stands_written : (code : Code) (post : Post) (before after : run.SinkState) → IsWritten code post before after → Stands code post
 stands_written code post before after written = (written.output, written.stands)
@@ -185,16 +186,18 @@ stops_replay_as stopped cause is stops = elim is [
 pub record GoesOn (code : Code) (old new : Post) (before after : run.SinkState) : Type 0 where
   pub stands : Stands code new
   pub limits : new.limits ≡ old.limits
+  pub right : new.wrong ≡ old.wrong
   pub written : KeepsWritten code old new before after
 
 pub goes_first : (code : Code) (post : Post) (before : run.SinkState) → Stands code post → GoesOn code post post before before
-goes_first code post before stands = record { stands = stands; limits = refl; written = λ first written. written }
+goes_first code post before stands = record { stands = stands; limits = refl; right = refl; written = λ first written. written }
 
 pub goes_next : (code : Code) (old middle new : Post) (before between after : run.SinkState) → GoesOn code old middle before between
-    → Stands code new → new.limits ≡ middle.limits → KeepsWritten code middle new between after → GoesOn code old new before after
-goes_next code old middle new before between after goes stands limits keeps = record {
+    → Stands code new → new.limits ≡ middle.limits → new.wrong ≡ middle.wrong → KeepsWritten code middle new between after → GoesOn code old new before after
+goes_next code old middle new before between after goes stands limits right keeps = record {
   stands = stands;
   limits = limits ∙ goes.limits;
+  right = right ∙ goes.right;
   written = λ first written. keeps first (goes.written first written);
 }
 
@@ -236,11 +239,11 @@ end_wrote cause code post after found is same = λ first below written.
 
 -- a run in rounds, or a replay
 
-stop_end : (budget : ℕ) (end : Option End) (found : End) → rounds.Ended found ≡ stop_in budget end → Some found ≡ end
+pub stop_end : (budget : ℕ) (end : Option End) (found : End) → rounds.Ended found ≡ stop_in budget end → Some found ≡ end
 stop_end budget None found is = absurd (cc)
 stop_end budget (Some end) found is = cc
 
-no_end : (budget limit : ℕ) (end : Option End) → rounds.RoundLimit limit ≡ stop_in budget end → None ≡ end
+pub no_end : (budget limit : ℕ) (end : Option End) → rounds.RoundLimit limit ≡ stop_in budget end → None ≡ end
 no_end budget limit None is = refl
 no_end budget limit (Some end) is = absurd (cc)
 
@@ -286,27 +289,35 @@ rounds_wrote code old new first before after budget (rounds.RoundLimit limit) be
     subst (λ (l : List ℕ). Replays code l new.journal.entries (record { before = seen first; after = seen after })) limits
     (whole code new first after (goes_uncut new (no_end budget limit _ is)) (keeps first written))
 
+-- what went out whole
+pub whole_replays : (code : Code) (limits journal : List ℕ) (first after : run.SinkState) → GotWhole code limits journal first after
+    → Replays code limits journal (record { before = seen first; after = seen after })
+whole_replays code limits journal first after got =
+    record { run = got.run; turns = got.turns; gets = record { contents = got.gets.contents; faults = got.gets.faults } }
+
 -- and what a replay did
 replay_wrote : (code : Code) (limits : List ℕ) (post : Post) (first after : run.SinkState) (stop : ReplayStop) → first.faults < greatest_count
-    → StopsAt code stop post → UnlessIt stop (IsWritten code post first after) → UnlessIt stop (post.limits ≡ limits)
-    → WroteReplay (replay_cause stop) code limits post.journal.entries (record { before = seen first; after = seen after })
-replay_wrote code limits post first after (replay.Ended (end.Wrong process)) below is written same = tt
-replay_wrote code limits post first after (replay.Ended end.Quiet) below is written same =
-    subst (λ (l : List ℕ). WroteFrom (cause_by end.Quiet) code l post.journal.entries first after) same (ended code post first after end.Quiet (sym is) below written)
-replay_wrote code limits post first after (replay.Ended (end.Waiting process)) below is written same =
-    subst (λ (l : List ℕ). WroteFrom (cause_by (end.Waiting process)) code l post.journal.entries first after) same (ended code post first after (end.Waiting process) (sym is) below written)
-replay_wrote code limits post first after (replay.Ended (end.Panicked process)) below is written same =
-    subst (λ (l : List ℕ). WroteFrom (cause_by (end.Panicked process)) code l post.journal.entries first after) same (ended code post first after (end.Panicked process) (sym is) below written)
-replay_wrote code limits post first after (replay.Ended end.SinkFailed) below is written same =
+    → StopsAt stop post → UnlessIt stop (IsWritten code post first after) → post.limits ≡ limits
+    → WroteBy code limits post.journal.entries stop first after
+    → Wrote (replay_cause stop) code limits post.journal.entries (record { before = seen first; after = seen after })
+replay_wrote code limits post first after (replay.Ended end.SinkFailed) below is written same wrote =
     subst (λ (l : List ℕ). WroteFrom (cause_by end.SinkFailed) code l post.journal.entries first after) same (ended code post first after end.SinkFailed (sym is) below written)
-replay_wrote code limits post first after (replay.Ended (end.Events process)) below is written same =
-    subst (λ (l : List ℕ). WroteFrom (cause_by (end.Events process)) code l post.journal.entries first after) same (ended code post first after (end.Events process) (sym is) below written)
-replay_wrote code limits post first after (replay.Ended (end.Local process steps)) below is written same =
-    subst (λ (l : List ℕ). WroteFrom (cause_by (end.Local process steps)) code l post.journal.entries first after) same (ended code post first after (end.Local process steps) (sym is) below written)
-replay_wrote code limits post first after (replay.JournalEnds process) below is written same =
-    subst (λ (l : List ℕ). ReplaysSome code l post.journal.entries (record { before = seen first; after = seen after })) same (some_written code post first after below written)
-replay_wrote code limits post first after (replay.BadEntry entry) below is written same =
-    subst (λ (l : List ℕ). ReplaysSome code l post.journal.entries (record { before = seen first; after = seen after })) same (some_written code post first after below written)
+replay_wrote code limits post first after (replay.Ended (end.Wrong process)) below is written same wrote =
+    whole_replays code limits post.journal.entries first after wrote
+replay_wrote code limits post first after (replay.Ended end.Quiet) below is written same wrote =
+    whole_replays code limits post.journal.entries first after wrote
+replay_wrote code limits post first after (replay.Ended (end.Waiting process)) below is written same wrote =
+    whole_replays code limits post.journal.entries first after wrote
+replay_wrote code limits post first after (replay.Ended (end.Panicked process)) below is written same wrote =
+    whole_replays code limits post.journal.entries first after wrote
+replay_wrote code limits post first after (replay.Ended (end.Events process)) below is written same wrote =
+    whole_replays code limits post.journal.entries first after wrote
+replay_wrote code limits post first after (replay.Ended (end.Local process steps)) below is written same wrote =
+    whole_replays code limits post.journal.entries first after wrote
+replay_wrote code limits post first after (replay.JournalEnds process) below is written same wrote =
+    whole_replays code limits post.journal.entries first after wrote
+replay_wrote code limits post first after (replay.BadEntry entry) below is written same wrote =
+    whole_replays code limits post.journal.entries first after wrote
 
 -- want of memory for a report in place of a panic
 panic_rounds : (stopped : Cause) (code : Code) (limits journal : List ℕ) (out : Change SinkState) → IsPanic stopped → WroteRounds stopped code limits journal out
@@ -319,13 +330,6 @@ pub rounds_as : (stopped cause : Cause) (code : Code) (limits journal : List ℕ
 rounds_as stopped cause code limits journal out is wrote = elim is [
   | inl same ↦ subst (λ (c : Cause). WroteRounds c code limits journal out) (sym same) wrote
   | inr memory ↦ subst (λ (c : Cause). WroteRounds c code limits journal out) (sym memory.0) (panic_rounds stopped code limits journal out memory.1 wrote)
-]
-
-pub replay_as : (stopped cause : Cause) (code : Code) (limits journal : List ℕ) (out : Change SinkState) → StopsAs stopped cause
-    → WroteReplay stopped code limits journal out → WroteReplay cause code limits journal out
-replay_as stopped cause code limits journal out is wrote = elim is [
-  | inl same ↦ subst (λ (c : Cause). WroteReplay c code limits journal out) (sym same) wrote
-  | inr memory ↦ (let none : WroteReplay OutOfMemory code limits journal out = tt in subst (λ (c : Cause). WroteReplay c code limits journal out) (sym memory.0) none)
 ]
 
 -- what a run in rounds came to that stopped, and one that had no memory
@@ -352,13 +356,13 @@ rounds_failed code old new first before after cause journal taken same below lea
 -- and what a replay came to that stopped
 pub replay_stopped : (code : Code) (limits : List ℕ) (post : Post) (first after : run.SinkState) (stop : ReplayStop) (stopped cause : Cause) (journal : List ℕ)
     → StopsAs stopped cause → stopped ≡ replay_cause stop → journal ≡ post.journal.entries → first.faults < greatest_count
-    → StopsAt code stop post → UnlessIt stop (IsWritten code post first after) → UnlessIt stop (post.limits ≡ limits)
-    → WroteReplay cause code limits journal (record { before = seen first; after = seen after })
-replay_stopped code limits post first after stop stopped cause journal taken is same below ends written right =
+    → StopsAt stop post → UnlessIt stop (IsWritten code post first after) → post.limits ≡ limits → WroteBy code limits post.journal.entries stop first after
+    → Wrote cause code limits journal (record { before = seen first; after = seen after })
+replay_stopped code limits post first after stop stopped cause journal taken is same below ends written right wrote =
     let O : Change SinkState = record { before = seen first; after = seen after } in
-    let here = replay_wrote code limits post first after stop below ends written right in
-    let stops : WroteReplay stopped code limits post.journal.entries O = subst (λ (c : Cause). WroteReplay c code limits post.journal.entries O) (sym is) here in
-    subst (λ (j : List ℕ). WroteReplay cause code limits j O) (sym same) (replay_as stopped cause code limits post.journal.entries O taken stops)
+    let here = replay_wrote code limits post first after stop below ends written right wrote in
+    let stops : Wrote stopped code limits post.journal.entries O = subst (λ (c : Cause). Wrote c code limits post.journal.entries O) (sym is) here in
+    subst (λ (j : List ℕ). Wrote cause code limits j O) (sym same) (wrote_as stopped cause code limits post.journal.entries O taken stops)
 
 -- nothing was run
 
@@ -375,5 +379,5 @@ ran_not code limits rounds cause journal out memory none same =
   where
     by_rounds : (code : Code) (limits : List ℕ) (rounds : Option ℕ) (journal : List ℕ) (out : Change SinkState) → Replays code limits journal out
         → RanCode code limits rounds OutOfMemory journal out
-    by_rounds code limits None journal out replays = record { stops = tt; wrote = replays }
-    by_rounds code limits (Some rounds) journal out replays = record { stops = tt; wrote = inl replays }
+    by_rounds code limits None journal out replays = record { stops = tt; means = tt; wrote = replays }
+    by_rounds code limits (Some rounds) journal out replays = record { stops = tt; means = tt; wrote = inl replays }

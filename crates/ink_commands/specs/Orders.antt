@@ -8,21 +8,24 @@ use Rattle.ink_journal.specs.File.{IsFile}
 use Rattle.ink_words.specs.Commands.{Word, Asked}
 use Rattle.ink_causes.specs.Devices.{Change, FilesState, SinkState}
 use Rattle.ink_causes.specs.declared.cause.Cause.{Cause}
+use Rattle.ink_commands.specs.Reports.{Reports}
 use Rattle.ink_commands.specs.Runs.{RanCode, ReplayedCode}
 use Rattle.ink_commands.specs.Sources.{most_read, most_journal, IsUnread, IsIdle, CheckedSource, HasNoCode, MakesCode, PrintedSource, ListedSource, MadeModule, IsNoJournal}
 
 -- What a call did, before it is told: the cause, the name of the file that was to be read last, how the files changed, the
--- journal, and how the output changed.
+-- journal, the report of a panic, and how the output changed.
 pub record Deed : Type 0 where
   pub cause : Cause
   pub name : Word
   pub files : Change FilesState
   pub journal : List ℕ
+  pub report : List ℕ
   pub out : Change SinkState
 
 -- the deed of a call that found these files and this output, and left those
-abbrev pub deed_of : Cause → Word → Change FilesState → List ℕ → Change SinkState → Deed
-deed_of cause name files journal out = record { cause = cause; name = name; files = files; journal = journal; out = out }
+abbrev pub deed_of : Cause → Word → Change FilesState → List ℕ → List ℕ → Change SinkState → Deed
+deed_of cause name files journal report out =
+    record { cause = cause; name = name; files = files; journal = journal; report = report; out = out }
 
 -- A file was read, and this came of its first bytes, at most so many. Or it was not, and nothing was done.
 abbrev pub FromFile : Word → ℕ → (List ℕ → Type 0) → Deed → Type 0
@@ -46,16 +49,18 @@ ReadsWell deed = deed.files.after.reads ≡ deed.files.before.reads
 abbrev pub RanSource : List ℕ → Option ℕ → Deed → List ℕ → Type 0
 RanSource limits rounds deed bytes =
     (HasNoCode limits deed.cause bytes × IsIdle deed.journal deed.out)
-    ⊎ ((code : Code) × MakesCode limits bytes (Ok code) × RanCode code limits rounds deed.cause deed.journal deed.out)
+    ⊎ ((code : Code) × MakesCode limits bytes (Ok code) × RanCode code limits rounds deed.cause deed.journal deed.out
+    × Reports deed.cause code limits deed.journal deed.report)
 
 -- what came of the bytes of a journal's file, by which a code is to be replayed
-abbrev pub ReplayedBytes : Code → List ℕ → Cause → List ℕ → List ℕ → Change SinkState → Type 0
-ReplayedBytes code limits cause bytes journal out =
+abbrev pub ReplayedBytes : Code → List ℕ → Cause → List ℕ → List ℕ → List ℕ → Change SinkState → Type 0
+ReplayedBytes code limits cause bytes journal report out =
     (IsNoJournal limits cause bytes × IsIdle journal out)
-    ⊎ ((entries : List ℕ) × IsFile (limit_of Events limits) bytes entries × ReplayedCode code limits entries cause journal out)
+    ⊎ ((entries : List ℕ) × IsFile (limit_of Events limits) bytes entries × ReplayedCode code limits entries cause journal out
+    × Reports cause code limits journal report)
 
 abbrev pub ReplayedEntries : Code → List ℕ → Deed → List ℕ → Type 0
-ReplayedEntries code limits deed bytes = ReadsWell deed × ReplayedBytes code limits deed.cause bytes deed.journal deed.out
+ReplayedEntries code limits deed bytes = ReadsWell deed × ReplayedBytes code limits deed.cause bytes deed.journal deed.report deed.out
 
 -- what came of a source that is to be replayed by the journal of a file
 abbrev pub ReplayedSource : List ℕ → Word → Deed → List ℕ → Type 0

@@ -18,6 +18,7 @@ use Rattle.ink_rounds.specs.declared.running.Stop.{Stop}
 use Rattle.ink_rounds.specs.declared.running.Stop.TheVariants as rounds
 use Rattle.ink_run.specs.Sinks as run
 use Rattle.ink_run.specs.Written.{IsWritten}
+use Rattle.ink_commands.specs.Meanings.{CauseMeans, ReplayMeans}
 use Rattle.ink_worlds.specs.declared.halt.Halt.{Halt}
 use Rattle.ink_worlds.specs.declared.halt.Halt.TheVariants as halt
 
@@ -141,15 +142,6 @@ WroteRounds (Wrong process) code limits journal out = Unit {0}
 WroteRounds OutOfMemory code limits journal out = ReplaysSome code limits journal out
 WroteRounds cause code limits journal out = Wrote cause code limits journal out
 
--- What a replay wrote. Where the journal ended, or an entry was bad, it isn't said that the output didn't fail before;
--- without memory, or where the code is wrong, nothing is.
-abbrev pub WroteReplay : Cause → Code → List ℕ → List ℕ → Change SinkState → Type 0
-WroteReplay (Wrong process) code limits journal out = Unit {0}
-WroteReplay OutOfMemory code limits journal out = Unit {0}
-WroteReplay (JournalEnds process) code limits journal out = ReplaysSome code limits journal out
-WroteReplay (BadEntry entry) code limits journal out = ReplaysSome code limits journal out
-WroteReplay cause code limits journal out = Wrote cause code limits journal out
-
 -- what a code wrote that ran, in rounds where a number of them is given
 abbrev pub WroteIn : Option ℕ → Cause → Code → List ℕ → List ℕ → Change SinkState → Type 0
 WroteIn None cause code limits journal out = Wrote cause code limits journal out
@@ -158,9 +150,11 @@ WroteIn (Some rounds) cause code limits journal out = WroteRounds cause code lim
 -- what came of a code that ran, in rounds where a number of them is given
 pub record RanCode (code : Code) (limits : List ℕ) (rounds : Option ℕ) (cause : Cause) (journal : List ℕ) (out : Change SinkState) : Type 0 where
   pub stops : StopsRun cause
+  pub means : CauseMeans code limits rounds journal cause
   pub wrote : WroteIn rounds cause code limits journal out
 
 -- what came of a code that was replayed by these entries
 pub record ReplayedCode (code : Code) (limits entries : List ℕ) (cause : Cause) (journal : List ℕ) (out : Change SinkState) : Type 0 where
   pub stops : StopsReplay cause
-  pub wrote : WroteReplay cause code limits journal out
+  pub means : ReplayMeans code limits entries journal cause
+  pub wrote : Wrote cause code limits journal out

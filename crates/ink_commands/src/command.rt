@@ -37,6 +37,7 @@ fn check_file<F: Files, K: Sink + Drop>(
         after = files_of F.held F.read_faults F.write_faults files.new;
       };
       journal = result.journal.entries;
+      report = result.report;
       out = record { before = sink_of K.contents K.faults out; after = sink_of K.contents K.faults result.out };
     }) }
     ensures files { KeepsFiles (record {
@@ -71,6 +72,7 @@ fn print_file<F: Files, K: Sink + Drop>(
         after = files_of F.held F.read_faults F.write_faults files.new;
       };
       journal = result.journal.entries;
+      report = result.report;
       out = record { before = sink_of K.contents K.faults out; after = sink_of K.contents K.faults result.out };
     }) }
     ensures files { KeepsFiles (record {
@@ -105,6 +107,7 @@ fn list_file<F: Files, K: Sink + Drop>(
         after = files_of F.held F.read_faults F.write_faults files.new;
       };
       journal = result.journal.entries;
+      report = result.report;
       out = record { before = sink_of K.contents K.faults out; after = sink_of K.contents K.faults result.out };
     }) }
     ensures files { KeepsFiles (record {
@@ -174,6 +177,7 @@ fn run_file<R: Threads + Sync, F: Files, K: Sink + Drop>(
         after = files_of F.held F.read_faults F.write_faults files.new;
       };
       journal = result.journal.entries;
+      report = result.report;
       out = record { before = sink_of K.contents K.faults out; after = sink_of K.contents K.faults result.out };
     }) }
     ensures files { KeepsFiles (record {
@@ -204,7 +208,7 @@ fn replay_bytes<K: Sink + Drop>(
     out: K,
 ) -> Outcome<K>
     requires { K.faults out < greatest_count }
-    ensures { ReplayedBytes code.now limits.now result.cause bytes.now result.journal.entries (record { before = sink_of K.contents K.faults out; after = sink_of K.contents K.faults result.out }) }
+    ensures { ReplayedBytes code.now limits.now result.cause bytes.now result.journal.entries result.report (record { before = sink_of K.contents K.faults out; after = sink_of K.contents K.faults result.out }) }
 {
     match journal_of(alloc, bytes, limits) {
         Err(cause) => Outcome::without_run(alloc, cause, out),
@@ -231,6 +235,7 @@ fn replay_journal<F: Files, K: Sink + Drop>(
         after = files_of F.held F.read_faults F.write_faults files.new;
       };
       journal = result.journal.entries;
+      report = result.report;
       out = record { before = sink_of K.contents K.faults out; after = sink_of K.contents K.faults result.out };
     })) (record {
       cause = result.cause;
@@ -240,6 +245,7 @@ fn replay_journal<F: Files, K: Sink + Drop>(
         after = files_of F.held F.read_faults F.write_faults files.new;
       };
       journal = result.journal.entries;
+      report = result.report;
       out = record { before = sink_of K.contents K.faults out; after = sink_of K.contents K.faults result.out };
     }) }
     ensures files { KeepsFiles (record {
@@ -272,6 +278,7 @@ fn replay_file<'a, F: Files, K: Sink + Drop>(
         after = files_of F.held F.read_faults F.write_faults files.new;
       };
       journal = result.outcome.journal.entries;
+      report = result.outcome.report;
       out = record { before = sink_of K.contents K.faults out; after = sink_of K.contents K.faults result.outcome.out };
     }) }
     ensures files { KeepsFiles (record {
@@ -298,7 +305,7 @@ pub fn obey<'a, R: Threads + Sync, F: Files, K: Sink + Drop>(
 ) -> Found<'a, K>
     requires read_faults { (F.read_faults files.old).count < greatest_count }
     requires faults { K.faults out < greatest_count }
-    ensures did { Did (asked_by order.entry) (deed_of result.outcome.cause result.name.now (record { before = files_of F.held F.read_faults F.write_faults files.old; after = files_of F.held F.read_faults F.write_faults files.new }) result.outcome.journal.entries (record { before = sink_of K.contents K.faults out; after = sink_of K.contents K.faults result.outcome.out })) }
+    ensures did { Did (asked_by order.entry) (deed_of result.outcome.cause result.name.now (record { before = files_of F.held F.read_faults F.write_faults files.old; after = files_of F.held F.read_faults F.write_faults files.new }) result.outcome.journal.entries result.outcome.report (record { before = sink_of K.contents K.faults out; after = sink_of K.contents K.faults result.outcome.out })) }
     ensures files { KeepsFiles (record { before = files_of F.held F.read_faults F.write_faults files.old; after = files_of F.held F.read_faults F.write_faults files.new }) }
 {
     match order {

@@ -1,10 +1,14 @@
 //! A code run or replayed, up to its end.
-ghost use Rattle.std.specs.Prelude.{◌≡◌, ◌<◌, None, IfSome, IsSome};
+ghost use Rattle.std.specs.Prelude.{◌≡◌, ◌<◌, None, Some, IfOk, IfSome, IsSome};
+ghost use Rattle.ink_base.specs.Numbered.{numbered};
 ghost use Rattle.ink_causes.specs.Devices.{sink_of};
 ghost use Rattle.ink_code.specs.declared.code.Code.{Code as OneCode};
+ghost use Rattle.ink_commands.specs.Meanings.{CauseMeans};
+ghost use Rattle.ink_commands.specs.Reports.{PanickedIn, Reports, ReportsOf, told_report};
 ghost use Rattle.ink_commands.specs.Runs.{IsUncut, RanCode, ReplayedCode, StillReplays, StopsAs, StopsAtOnce, StopsReplay, StopsRun, WritesUpTo, WroteAll, WroteFrom, WroteRounds, cause_by, replay_cause, rounds_cause, seen};
 ghost use Rattle.ink_devices.specs.Outside.{greatest_count};
-ghost use Rattle.ink_post.specs.Worlds.{Stands};
+ghost use Rattle.ink_post.specs.Worlds.{Stands, proc_at};
+ghost use Rattle.ink_replay.specs.declared.replaying.ReplayFault.TheVariants as unmade;
 ghost use Rattle.ink_rounds.specs.Faults.{world_in};
 ghost use Rattle.ink_run.specs.Sinks.{SinkState as SinkAt, sink_of as sink_at};
 ghost use Rattle.ink_run.specs.Written.{IsWritten, KeepsWritten};
@@ -67,7 +71,9 @@ fn report_of<K: Sink + Drop>(
     code: &Code,
     world: &World<K>,
     process: u32,
-) -> Result<Text, AllocError> {
+) -> Result<Text, AllocError>
+    ensures { IfOk result (λ report. report ≡ told_report world.now.post.text (proc_at (numbered world.now.post.homes.items process)) code.now) }
+{
     match (world.panic_text(), world.proc(process)) {
         (Some(text), Some(proc)) => report(alloc, text, proc, code),
         _ => Ok(Text::from_bytes(Vec::new(alloc))),
@@ -81,7 +87,8 @@ fn reported<K: Sink + Drop>(
     world: &World<K>,
     cause: Cause,
 ) -> (Cause, Text)
-    ensures { StopsAs cause result.0 }
+    ensures cause { StopsAs cause result.0 }
+    ensures report { ReportsOf result.0 code.now world.now.post result.1 }
 {
     let none = Text::from_bytes(Vec::new(alloc));
     match cause {
@@ -96,6 +103,7 @@ fn reported<K: Sink + Drop>(
 /// What a run came to that stopped for this cause.
 fn stopped<K: Sink + Drop>(alloc: Global, code: &Code, world: World<K>, cause: Cause) -> Outcome<K>
     ensures cause { StopsAs cause result.cause }
+    ensures report { ReportsOf result.cause code.now world.post result.report }
     ensures journal { result.journal.entries ≡ world.post.journal.entries }
     ensures out { result.out ≡ world.sink }
 {
@@ -114,6 +122,8 @@ fn go_on<K: Sink + Drop>(code: &Code, world: &mut World<K>, process: u32) -> Opt
     requires { Stands code.now world.old.post }
     ensures stops { IfSome result StopsAtOnce }
     ensures stands { result ≡ None → Stands code.now world.new.post }
+    ensures right { result ≡ None → world.new.post.wrong ≡ world.old.post.wrong }
+    ensures means { IfSome result (λ cause. CauseMeans code.now world.new.post.limits None world.new.post.journal.entries cause) }
     ensures limits { world.new.post.limits ≡ world.old.post.limits }
     ensures goes { result ≡ None → KeepsWritten code.now world.old.post world.new.post (sink_at K.contents K.faults world.old.sink) (sink_at K.contents K.faults world.new.sink) }
     ensures wrote { IfSome result (λ cause. StillReplays code.now world.old.post world.new.post (sink_at K.contents K.faults world.old.sink) (sink_at K.contents K.faults world.new.sink)) }
@@ -145,6 +155,8 @@ fn next_of<K: Sink + Drop>(world: &World<K>) -> Option<u32>
 /// The cause for which a run stops where no process goes on. Without an end a process gave up, for want of memory.
 fn stop_of<K: Sink + Drop>(world: &World<K>) -> Cause
     ensures stops { StopsRun result }
+    ensures panicked { (code : OneCode) → Stands code world.now.post → PanickedIn result code world.now.post }
+    ensures means { (code : OneCode) → Stands code world.now.post → world.now.post.wrong ≡ None → CauseMeans code world.now.post.limits None world.now.post.journal.entries result }
     ensures wrote { (code : OneCode) → WroteAll result code world.now.post (sink_at K.contents K.faults world.now.sink) }
 {
     match world.end() {
@@ -155,8 +167,11 @@ fn stop_of<K: Sink + Drop>(world: &World<K>) -> Cause
 
 /// Runs a code up to its end: the least process that is ready goes on, by one action at a time.
 fn run_freely<K: Sink + Drop>(code: &Code, world: &mut World<K>) -> Cause
-    requires { Stands code.now world.old.post }
+    requires stands { Stands code.now world.old.post }
+    requires right { world.old.post.wrong ≡ None }
     ensures stops { StopsRun result }
+    ensures panicked { PanickedIn result code.now world.new.post }
+    ensures means { CauseMeans code.now world.new.post.limits None world.new.post.journal.entries result }
     ensures limits { world.new.post.limits ≡ world.old.post.limits }
     ensures wrote { WritesUpTo result code.now world.old.post world.new.post (sink_at K.contents K.faults world.old.sink) (sink_at K.contents K.faults world.new.sink) }
 {
@@ -173,8 +188,11 @@ fn run_freely<K: Sink + Drop>(code: &Code, world: &mut World<K>) -> Cause
 
 /// What a run comes to that isn't made in rounds.
 fn run_to_end<K: Sink + Drop>(alloc: Global, code: &Code, mut world: World<K>) -> Outcome<K>
-    requires { Stands code.now world.post }
+    requires stands { Stands code.now world.post }
+    requires right { world.post.wrong ≡ None }
     ensures stops { StopsRun result.cause }
+    ensures means { CauseMeans code.now world.post.limits None result.journal.entries result.cause }
+    ensures reports { Reports result.cause code.now world.post.limits result.journal.entries result.report }
     ensures wrote { (first : SinkAt) → first.faults < greatest_count → IsWritten code.now world.post first (sink_at K.contents K.faults world.sink) → WroteFrom result.cause code.now world.post.limits result.journal.entries first (sink_at K.contents K.faults result.out) }
 {
     let cause = run_freely(code, &mut world);
@@ -201,6 +219,8 @@ fn run_in_rounds<R: Threads + Sync, K: Sink + Drop>(
 ) -> Outcome<K>
     requires { Stands code.now world.post }
     ensures stops { StopsRun result.cause }
+    ensures means { CauseMeans code.now world.post.limits (Some rounds) result.journal.entries result.cause }
+    ensures reports { Reports result.cause code.now world.post.limits result.journal.entries result.report }
     ensures wrote { (first : SinkAt) → first.faults < greatest_count → IsWritten code.now world.post first (sink_at K.contents K.faults world.sink) → WroteRounds result.cause code.now world.post.limits result.journal.entries (record { before = seen first; after = seen (sink_at K.contents K.faults result.out) }) }
 {
     let workers = world.limits().get(Limit::Workers) as u32;
@@ -230,7 +250,8 @@ pub fn run_code<R: Threads + Sync, K: Sink + Drop>(
     out: K,
 ) -> Outcome<K>
     requires { K.faults out < greatest_count }
-    ensures { RanCode code.now limits.now rounds result.cause result.journal.entries (record { before = sink_of K.contents K.faults out; after = sink_of K.contents K.faults result.out }) }
+    ensures reports { Reports result.cause code.now limits.now result.journal.entries result.report }
+    ensures ran { RanCode code.now limits.now rounds result.cause result.journal.entries (record { before = sink_of K.contents K.faults out; after = sink_of K.contents K.faults result.out }) }
 {
     match World::begin(alloc, code, *limits, out) {
         Err(fault) => Outcome::without_run(alloc, Cause::OutOfMemory, sink_back(fault)),
@@ -238,6 +259,15 @@ pub fn run_code<R: Threads + Sync, K: Sink + Drop>(
             Some(rounds) => run_in_rounds(rt, alloc, code, world, rounds),
             None => run_to_end(alloc, code, world),
         },
+    }
+}
+
+/// The entries that were made and the sink, which come back from a replay that had no memory.
+fn made_back<K: Sink + Drop>(fault: ReplayFault<K>) -> (Journal, K)
+    ensures { fault ≡ unmade.OutOfMemory result.0 result.1 }
+{
+    match fault {
+        ReplayFault::OutOfMemory { journal, sink } => (journal, sink),
     }
 }
 
@@ -250,15 +280,19 @@ pub fn replay_code<K: Sink + Drop>(
     out: K,
 ) -> Outcome<K>
     requires { K.faults out < greatest_count }
-    ensures { ReplayedCode code.now limits.now journal.now.entries result.cause result.journal.entries (record { before = sink_of K.contents K.faults out; after = sink_of K.contents K.faults result.out }) }
+    ensures reports { Reports result.cause code.now limits.now result.journal.entries result.report }
+    ensures replayed { ReplayedCode code.now limits.now journal.now.entries result.cause result.journal.entries (record { before = sink_of K.contents K.faults out; after = sink_of K.contents K.faults result.out }) }
 {
     match replay(alloc, code, *limits, journal, out) {
-        Err(ReplayFault::OutOfMemory { journal, sink }) => Outcome {
-            cause: Cause::OutOfMemory,
-            report: Text::from_bytes(Vec::new(alloc)),
-            journal,
-            out: sink,
-        },
+        Err(fault) => {
+            let (journal, out) = made_back(fault);
+            Outcome {
+                cause: Cause::OutOfMemory,
+                report: Text::from_bytes(Vec::new(alloc)),
+                journal,
+                out,
+            }
+        }
         Ok(replayed) => stopped(alloc, code, replayed.world, cause_of_replay(replayed.stop)),
     }
 }

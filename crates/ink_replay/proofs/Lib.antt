@@ -1,5 +1,6 @@
 mod CalmLemmas
 mod EndLemmas
 mod LookLemmas
+mod RestLemmas
 mod StuckLemmas
 mod TurnLemmas

@@ -1,5 +1,6 @@
 -- Where an entry can't be made its process has no turn, and no run has the entries up to it.
 use Rattle.std.proofs.Common.{◌≡◌, ℕ, Bool, true, false, Option, None, Some, List, length, refl, ap, sym, ◌∙◌, subst, inl, inr}
+use Rattle.std.specs.Option.{is_some}
 use Rattle.std.specs.Prelude.{nat_le}
 use Rattle.ink_base.specs.declared.limits.Limit.TheVariants as limit
 use Rattle.ink_base.specs.Actions.{Action, Take, Print, Spawn, Send, NewFuture, SetFuture, BreakFuture, GetFuture, Panic, SharedState, as_made, is_enabled}
@@ -23,8 +24,8 @@ use Rattle.ink_post.specs.declared.answer.Answer.{Answer}
 use Rattle.ink_post.specs.declared.answer.Answer.TheVariants as a
 use Rattle.ink_post.specs.declared.post.Post.{Post}
 use Rattle.ink_post.proofs.Slices.{comes_by}
-use Rattle.ink_replay.specs.Calm.{AreAtRest, IsCalm, kept_by}
-use Rattle.ink_replay.specs.Refusals.{FailsStuck, IsStuck}
+use Rattle.ink_replay.specs.Calm.{AreAtRest, IsCalm}
+use Rattle.ink_replay.specs.Refusals.{IsStuck}
 use Rattle.ink_run.specs.Sinks.{SinkState}
 use Rattle.ink_run.specs.Written.{ActsOut, Writes}
 use Rattle.ink_run.specs.declared.applied.Applied.TheVariants as got
@@ -185,9 +186,9 @@ fails_waits code process old new before after stands out limits journal =
     stuck_as code process old new limits journal (out_stuck code process old stands out.middle new before after out.answer out.acts out.writes)
 
 -- behind a panic an entry can't be made
-pub fails_kept : (code : Code) (process : ℕ) (new : Post) → Stands code new → FailsStuck code process (kept_by process new.text) new
-fails_kept code process new stands = by_text new.text refl
+pub fails_over : (code : Code) (process : ℕ) (new : Post) → Stands code new → is_some new.text ≡ true → IsStuck code process new
+fails_over code process new stands over = by_text new.text refl over
   where
-    by_text : (o : Option (List ℕ)) → new.text ≡ o → FailsStuck code process (kept_by process o) new
-    by_text None is = tt
-    by_text (Some text) is = stuck_panicked code process new stands text is
+    by_text : (o : Option (List ℕ)) → new.text ≡ o → is_some o ≡ true → IsStuck code process new
+    by_text None is over = absurd (cc)
+    by_text (Some text) is over = stuck_panicked code process new stands text is

@@ -1,5 +1,5 @@
 -- All are at rest behind an entry that was made, and where a run begins. Nothing is a journal that leads to a process without a turn.
-use Rattle.std.proofs.Common.{◌≡◌, ℕ, zero, suc, ◌+◌, Option, None, Some, List, [], ◌∷◌, ◌++◌, take, refl, ap, sym, ◌∙◌, subst, arith}
+use Rattle.std.proofs.Common.{◌≡◌, ℕ, zero, suc, ◌+◌, Option, None, Some, List, [], ◌∷◌, ◌++◌, length, take, refl, ap, sym, ◌∙◌, subst, arith}
 use Rattle.std.specs.List.{slice_get}
 use Rattle.std.specs.Option.{option_map}
 use Rattle.ink_base.specs.Numbered.{numbered, set_numbered}
@@ -16,9 +16,11 @@ use Rattle.ink_post.specs.Asks.{came_with, told_came}
 use Rattle.ink_post.specs.Worlds.{CodeState, Stands, world_of}
 use Rattle.ink_post.specs.declared.answer.Answer.{Answer}
 use Rattle.ink_post.specs.declared.answer.Answer.TheVariants as a
+use Rattle.ink_post.specs.declared.answer.End.{End}
+use Rattle.ink_post.specs.declared.answer.End.TheVariants as end
 use Rattle.ink_post.specs.declared.post.Post.{Post}
 use Rattle.ink_replay.specs.Calm.{AreAtRest, EntersCalm, IsAtRest, IsCalm}
-use Rattle.ink_replay.specs.Entries.{entered_by}
+use Rattle.ink_replay.specs.Entries.{Begins, EndsAt, EndsIn, NextIs, entered_by}
 use Rattle.ink_replay.specs.Refusals.{IsNoJournal, IsStuck}
 use Rattle.ink_replay.proofs.CalmLemmas.{IsMade, OthersAtRest, calm_checks}
 use Rattle.ink_run.specs.Sinks.{SinkState}
@@ -35,9 +37,16 @@ no_text : (panic : Option (ℕ × List ℕ)) → None ≡ panicked panic → tex
 no_text None e = refl
 no_text (Some one) e = absurd (none_some one.0 e)
 
+-- in a run that goes on all are at rest
+calm_goes : (code : Code) (old : Post) → Stands code old → old.halt ≡ None → old.text ≡ None
+calm_goes code old stands is = stands.1.text ∙ no_text stands.1.run.panic (ap panic_in (sym is) ∙ stands.1.panic)
+
+pub goes_rest : (code : Code) (old : Post) → Stands code old → IsCalm old → old.halt ≡ None → AreAtRest old.statuses.items
+goes_rest code old stands calm is = calm (calm_goes code old stands is)
+
 module _ (code : Code) (process : ℕ) (old : Post) (stands : Stands code old) (calm : IsCalm old) where
   calm_text : old.halt ≡ None → old.text ≡ None
-  calm_text is = stands.1.text ∙ no_text stands.1.run.panic (ap panic_in (sym is) ∙ stands.1.panic)
+  calm_text is = calm_goes code old stands is
 
   others_rest : (middle : Post) (p : Process) → middle.statuses.items ≡ set_numbered old.statuses.items process (Out process p.ran) → old.halt ≡ None → OthersAtRest process middle.statuses.items
   others_rest middle p is halt other status differ at =
@@ -126,3 +135,41 @@ no_journal code limits process post given index same stuck made there =
     (subst (λ (js : List ℕ). Turns (code_machine code post.limits) post.limits (opening_run code) js run) whole turns) in
     let is : parts.0 ≡ stuck.run = turns_once (code_machine code post.limits) post.limits post.journal.entries (opening_run code) parts.0 stuck.run parts.1 stuck.turns in
     (subst (λ (r : Run Process Parcel). (mid : Run Process Parcel) → Turn (code_machine code post.limits) post.limits process r mid → ⊥) (sym is) stuck.stuck) parts.2.0 parts.2.1)
+
+-- the entries behind one that was made
+pub made_next : (given made new : List ℕ) (index process : ℕ) → new ≡ made ++ process ∷ [] → made ≡ take index given → slice_get given index ≡ Some process → new ≡ take (index + 1) given
+made_next given made new index process is all there =
+    let next : index + 1 ≡ suc index = omega arith in
+    is ∙ (ap (λ (js : List ℕ). js ++ process ∷ []) all ∙ (sym (take_next given index process there) ∙ ap (λ (n : ℕ). take n given) (sym next)))
+
+take_again : (given : List ℕ) (count : ℕ) → take (length (take count given)) given ≡ take count given
+take_again [] zero = refl
+take_again [] (suc count) = refl
+take_again (x ∷ given) zero = refl
+take_again (x ∷ given) (suc count) = ap (λ (ys : List ℕ). x ∷ ys) (take_again given count)
+
+begins_by : (given made : List ℕ) (count : ℕ) → made ≡ take count given → Begins given made
+begins_by given made count is = is ∙ (sym (take_again given count) ∙ ap (λ (js : List ℕ). take (length js) given) (sym is))
+
+take_all : (given : List ℕ) (index process : ℕ) → slice_get given index ≡ Some process → length (take index given) ≡ index
+take_all [] index process there = absurd (none_some process there)
+take_all (x ∷ given) zero process there = refl
+take_all (x ∷ given) (suc index) process there = ap suc (take_all given index process there)
+
+next_by : (given made : List ℕ) (index process at : ℕ) → made ≡ take index given → slice_get given index ≡ Some process → at ≡ process → NextIs at given made
+next_by given made index process at is there same =
+    ap (λ (n : ℕ). slice_get given n) (ap length is ∙ take_all given index process there) ∙ (there ∙ ap Some (sym same))
+
+-- an entry at which the run ended, among those that were given
+pub ends_in : (code : Code) (process : ℕ) (found : End) (old new : Post) (before after : SinkState) (given : List ℕ) (index : ℕ) → EndsAt code process found old new before after → old.journal.entries ≡ take index given → slice_get given index ≡ Some process → EndsIn found given new.journal.entries
+ends_in code process end.SinkFailed old new before after given index ends made there =
+    begins_by given new.journal.entries (index + 1) (made_next given old.journal.entries new.journal.entries index process ends.1 made there)
+ends_in code process (end.Events at) old new before after given index ends made there =
+    (begins_by given new.journal.entries index (ends.1 ∙ made), next_by given new.journal.entries index process at (ends.1 ∙ made) there ends.2)
+ends_in code process (end.Local at steps) old new before after given index ends made there =
+    (begins_by given new.journal.entries index (ends.1 ∙ made), next_by given new.journal.entries index process at (ends.1 ∙ made) there ends.2)
+ends_in code process (end.Wrong at) old new before after given index ends made there =
+    (begins_by given new.journal.entries index (ends.1 ∙ made), next_by given new.journal.entries index process at (ends.1 ∙ made) there ends.2)
+ends_in code process end.Quiet old new before after given index ends made there = absurd ends
+ends_in code process (end.Waiting at) old new before after given index ends made there = absurd ends
+ends_in code process (end.Panicked at) old new before after given index ends made there = absurd ends

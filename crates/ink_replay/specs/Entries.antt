@@ -4,7 +4,7 @@ use Rattle.ink_code.specs.declared.code.Code.{Code}
 use Rattle.ink_post.specs.declared.answer.End.{End}
 use Rattle.ink_post.specs.declared.answer.End.TheVariants as end
 use Rattle.ink_post.specs.declared.post.Post.{Post}
-use Rattle.ink_replay.specs.Keeps.{Keeps}
+use Rattle.ink_replay.specs.Keeps.{IsUncut, Keeps, StopsWrong}
 use Rattle.ink_replay.specs.declared.entries.Entered.{Entered}
 use Rattle.ink_replay.specs.declared.entries.Entered.TheVariants as entered
 use Rattle.ink_replay.specs.declared.entries.Entries.{Entries}
@@ -32,12 +32,12 @@ Adds process old new = new.journal.entries ≡ old.journal.entries ++ process �
 abbrev pub AddsNone : Post → Post → Type 0
 AddsNone old new = new.journal.entries ≡ old.journal.entries
 
--- the run ended so at an entry of the process. Nothing more is claimed of a world whose code is wrong
+-- the run ended so at an entry of the process
 abbrev pub EndsAt : Code → ℕ → End → Post → Post → SinkState → SinkState → Type 0
 EndsAt code process end.SinkFailed old new before after = Keeps code old new before after × Adds process old new
 EndsAt code process (end.Events at) old new before after = Keeps code old new before after × AddsNone old new × (at ≡ process)
 EndsAt code process (end.Local at steps) old new before after = Keeps code old new before after × AddsNone old new × (at ≡ process)
-EndsAt code process (end.Wrong at) old new before after = AddsNone old new × (at ≡ process)
+EndsAt code process (end.Wrong at) old new before after = StopsWrong code at old new before after × AddsNone old new × (at ≡ process)
 EndsAt code process other old new before after = ⊥
 
 -- what became of an entry of the process
@@ -72,12 +72,24 @@ EntersAll all.All given made = made ≡ given
 EntersAll (all.Bad entry) given made = IsNext entry given made
 EntersAll (all.Ended end) given made = EndsIn end given made
 
--- what is kept, unless the code is wrong
+-- behind an entry that was made, or can't be, the output didn't fail and no limit was met
+abbrev pub EntersUncut : Entered → Post → Type 0
+EntersUncut entered.Made post = IsUncut post.halt
+EntersUncut entered.Fails post = IsUncut post.halt
+EntersUncut (entered.Ends end) post = Unit {0}
+
+-- what is kept up to an end
 abbrev pub KeepsTo : Code → End → Post → Post → SinkState → SinkState → Type 0
-KeepsTo code (end.Wrong process) old new before after = Unit {0}
+KeepsTo code (end.Wrong process) old new before after = StopsWrong code process old new before after
 KeepsTo code other old new before after = Keeps code old new before after
 
 abbrev pub KeepsAll : Code → Entries → Post → Post → SinkState → SinkState → Type 0
 KeepsAll code (all.Ended end) old new before after = KeepsTo code end old new before after
 KeepsAll code all.All old new before after = Keeps code old new before after
 KeepsAll code (all.Bad entry) old new before after = Keeps code old new before after
+
+-- where all entries were made, or one can't be, the output didn't fail and no limit was met
+abbrev pub UncutAll : Entries → Post → Type 0
+UncutAll all.All post = IsUncut post.halt
+UncutAll (all.Bad entry) post = IsUncut post.halt
+UncutAll (all.Ended end) post = Unit {0}

@@ -6,3 +6,7 @@ use Rattle.ink_replay.specs.declared.replaying.ReplayFault.TheVariants.{OutOfMem
 -- the entries that were made
 abbrev pub made_of : {K : Type 0} → ReplayFault K → List ℕ
 made_of (OutOfMemory journal sink) = journal.entries
+
+-- and the sink
+abbrev pub sink_in : {K : Type 0} → ReplayFault K → K
+sink_in (OutOfMemory journal sink) = sink

@@ -1,14 +1,16 @@
 //! The replay.
-ghost use Rattle.std.specs.Prelude.{◌≡◌, [], IfErr, IfOk, OnErr};
+ghost use Rattle.std.specs.Prelude.{◌≡◌, [], None, IfErr, IfOk, OnErr};
 ghost use Rattle.ink_post.specs.Worlds.{Stands};
 ghost use Rattle.ink_replay.specs.Calm.{IsCalm};
-ghost use Rattle.ink_replay.specs.Ends.{StopsAt};
+ghost use Rattle.ink_replay.specs.Ends.{Means, StopsAt};
 ghost use Rattle.ink_replay.specs.Entries.{Begins};
-ghost use Rattle.ink_replay.specs.Faults.{made_of};
+ghost use Rattle.ink_replay.specs.Faults.{made_of, sink_in};
+ghost use Rattle.ink_replay.specs.Keeps.{GotWhole, IsUncut, Keeps};
 ghost use Rattle.ink_replay.specs.Refusals.{Refuses};
-ghost use Rattle.ink_replay.specs.Stops.{KeepsUntil, MadeBy, UnlessWrong};
+ghost use Rattle.ink_replay.specs.Stops.{KeepsUntil, MadeBy, UncutAt, UnlessWrong, WroteBy};
 ghost use Rattle.ink_run.specs.Sinks.{sink_of};
 ghost use Rattle.ink_run.specs.Written.{IsWritten};
+ghost use Rattle.ink_run.specs.declared.applied.BeginFault.TheVariants as begin;
 
 use crate::entries::{Entries, make_entries};
 use crate::rest::stop_behind;
@@ -52,10 +54,16 @@ fn stop_of<K: Sink + Drop>(
     requires stands { Stands code.now world.old.post }
     requires first { world.old.post.journal.entries ≡ [] }
     requires calm { IsCalm world.old.post }
+    requires uncut { IsUncut world.old.post.halt }
+    requires right { world.old.post.wrong ≡ None }
     ensures keeps { IfOk result (λ stop. KeepsUntil code.now stop world.old.post world.new.post (sink_of K.contents K.faults world.old.sink) (sink_of K.contents K.faults world.new.sink)) }
-    ensures made { IfOk result (λ stop. MadeBy stop journal.now.entries world.new.post.journal.entries) }
-    ensures at { IfOk result (λ stop. StopsAt code.now stop world.new.post) }
+    ensures made { IfOk result (λ stop. MadeBy code.now world.new.post.limits stop journal.now.entries world.new.post.journal.entries) }
+    ensures at { IfOk result (λ stop. StopsAt stop world.new.post) }
+    ensures means { IfOk result (λ stop. Means code.now world.new.post.limits world.new.post.journal.entries stop) }
+    ensures uncut { IfOk result (λ stop. UncutAt stop world.new.post) }
     ensures refuses { IfOk result (λ stop. Refuses code.now world.old.post.limits stop journal.now.entries) }
+    ensures fails { OnErr result (Keeps code.now world.old.post world.new.post (sink_of K.contents K.faults world.old.sink) (sink_of K.contents K.faults world.new.sink)) }
+    ensures goes { OnErr result (IsUncut world.new.post.halt) }
     ensures begins { OnErr result (Begins journal.now.entries world.new.post.journal.entries) }
 {
     match make_entries(code, world, journal) {
@@ -63,6 +71,15 @@ fn stop_of<K: Sink + Drop>(
         Ok(Entries::Bad(entry)) => Ok(ReplayStop::BadEntry(entry)),
         Ok(Entries::Ended(end)) => Ok(ReplayStop::Ended(end)),
         Ok(Entries::All) => stop_behind(code, world),
+    }
+}
+
+/// The sink, which comes back where no run began.
+fn sink_back<K: Sink + Drop>(fault: BeginFault<K>) -> K
+    ensures { fault ≡ begin.OutOfMemory result }
+{
+    match fault {
+        BeginFault::OutOfMemory(sink) => sink,
     }
 }
 
@@ -80,20 +97,23 @@ pub fn replay<K: Sink + Drop>(
     journal: &Journal,
     sink: K,
 ) -> Result<Replayed<K>, ReplayFault<K>>
-    ensures made { IfOk result (λ replayed. MadeBy replayed.stop journal.now.entries replayed.world.post.journal.entries) }
-    ensures stops { IfOk result (λ replayed. StopsAt code.now replayed.stop replayed.world.post) }
+    ensures made { IfOk result (λ replayed. MadeBy code.now limits replayed.stop journal.now.entries replayed.world.post.journal.entries) }
+    ensures stops { IfOk result (λ replayed. StopsAt replayed.stop replayed.world.post) }
+    ensures means { IfOk result (λ replayed. Means code.now limits replayed.world.post.journal.entries replayed.stop) }
     ensures refuses { IfOk result (λ replayed. Refuses code.now limits replayed.stop journal.now.entries) }
     ensures stands { IfOk result (λ replayed. UnlessWrong replayed.stop (Stands code.now replayed.world.post)) }
     ensures written { IfOk result (λ replayed. UnlessWrong replayed.stop (IsWritten code.now replayed.world.post (sink_of K.contents K.faults sink) (sink_of K.contents K.faults replayed.world.sink))) }
-    ensures limits { IfOk result (λ replayed. UnlessWrong replayed.stop (replayed.world.post.limits ≡ limits)) }
-    ensures fault { IfErr result (λ fault. Begins journal.now.entries (made_of fault)) }
+    ensures wrote { IfOk result (λ replayed. WroteBy code.now limits replayed.world.post.journal.entries replayed.stop (sink_of K.contents K.faults sink) (sink_of K.contents K.faults replayed.world.sink)) }
+    ensures limits { IfOk result (λ replayed. replayed.world.post.limits ≡ limits) }
+    ensures begins { IfErr result (λ fault. Begins journal.now.entries (made_of fault)) }
+    ensures whole { IfErr result (λ fault. GotWhole code.now limits (made_of fault) (sink_of K.contents K.faults sink) (sink_of K.contents K.faults (sink_in fault))) }
 {
     let mut world = match World::begin(alloc, code, limits, sink) {
         Ok(world) => world,
-        Err(BeginFault::OutOfMemory(sink)) => {
+        Err(fault) => {
             return Err(ReplayFault::OutOfMemory {
                 journal: Journal::new(alloc),
-                sink,
+                sink: sink_back(fault),
             });
         }
     };

@@ -33,6 +33,7 @@ pub record Went (call : TopCall) : Type 0 where
     name = name;
     files = change call.files.before files;
     journal = call.journal;
+    report = report;
     out = call.out;
   })
   pub asks : (asked : Asked) → IsOrder asked call.words → recording ≡ recording_of asked
@@ -47,6 +48,7 @@ deed call went = record {
   name = went.name;
   files = change call.files.before went.files;
   journal = call.journal;
+  report = went.report;
   out = call.out;
 }
 

@@ -10,7 +10,7 @@ use Rattle.ink_causes.specs.declared.cause.Cause.TheVariants.{Quiet, Accepted, W
 use Rattle.ink_causes.proofs.Sinks.{whole_or_failed, idle_or_failed}
 use Rattle.ink_commands.specs.Orders.{Came, Did, FromFile}
 use Rattle.ink_commands.specs.Sources.{IsUnread}
-use Rattle.ink_top.specs.Headline.{TopCall, RunsModule, IsUntouchedOrRuns, Means, MeansCause, KeepsOtherFiles, RecordsJournal, HasFailedToWrite, ShowsFaults}
+use Rattle.ink_top.specs.Headline.{TopCall, RunsModule, IsUntouchedOrRuns, Means, MeansCause, KeepsOtherFiles, KeepsUnnamed, RecordedRun, RecordsJournal, UnrecordedRun, HasFailedToWrite, ShowsReadFaults, ShowsWriteFaults}
 use Rattle.ink_top.specs.Keeping.{IsKept, Records, FailsToRecord}
 use Rattle.ink_top.proofs.Ending.{Went, deed, change, IsMade, plain, recorded, unmade, unwritten, ends, told_as, unkept, kept_on, kept_same, memory_unkept, write_unkept}
 use Rattle.ink_top.proofs.Meanings.{found_means}
@@ -62,6 +62,32 @@ records_from_before call went name records = record {
   writes = records.writes ∙ went.read.writes;
 }
 
+-- a run whose journal could not be written
+unrecorded : (call : TopCall) (went : Went call) (name : Word) → went.recording ≡ Some name → IsKept went.told
+    → FailsToRecord name (change went.files call.files.after) → UnrecordedRun call
+unrecorded call went name asks kept fails =
+    let runs : RunsModule call went.found = found_runs call went kept in record {
+      cause = went.found;
+      kept = subst IsKept (kept_same call went kept) kept;
+      ran = runs;
+      name = name;
+      asks = sym (went.asks runs.asked runs.accepted.source.words) ∙ asks;
+      fails = fails_from_before call went name fails;
+    }
+
+-- a run whose journal stands in its file
+recorded_run : (call : TopCall) (went : Went call) (name : Word) → went.recording ≡ Some name → call.cause ≡ went.told → IsKept went.told
+    → Records name call.journal (change went.files call.files.after) → RecordedRun call
+recorded_run call went name asks same kept records =
+    let R : Cause → Type 0 = λ c. RunsModule call c in
+    let runs : RunsModule call call.cause = subst R (sym (same ∙ kept_same call went kept)) (found_runs call went kept) in record {
+      kept = subst IsKept (sym same) kept;
+      ran = runs;
+      name = name;
+      asks = sym (went.asks runs.asked runs.accepted.source.words) ∙ asks;
+      records = records_from_before call went name records;
+    }
+
 pub means_cause : (call : TopCall) → Went call → MeansCause call
 means_cause call went =
     let M : Cause → Type 0 = λ c. Means c call in
@@ -82,14 +108,7 @@ means_cause call went =
       | recorded name asks same kept records reads err ↦ subst M (sym (same ∙ kept_same call went kept)) (found_means call went)
       | unmade name kept is files tries ↦ subst M (sym is) (inr (went.found, found_runs call went kept))
       | unwritten name asks kept is fails reads tries ↦
-          let runs : RunsModule call went.found = found_runs call went kept in
-          subst M (sym is) (inr (inr (inr (record {
-            cause = went.found;
-            ran = runs;
-            name = name;
-            asks = sym (went.asks runs.asked runs.accepted.source.words) ∙ asks;
-            fails = fails_from_before call went name fails;
-          }))))
+          subst M (sym is) (inr (inr (inr (unrecorded call went name asks kept fails))))
     ]
 
 -- the files
@@ -97,13 +116,9 @@ means_cause call went =
 pub keeps_other_files : (call : TopCall) → Went call → KeepsOtherFiles call
 keeps_other_files call went = elim (ends call went) [
   | plain why nothing ↦ inl (kept_on call.files.before went.files call.files.after went.read nothing.kept)
-  | recorded name asks same kept records reads err ↦
-      let runs : RunsModule call went.found = found_runs call went kept in
-      inr (runs.asked, name, runs.accepted.source.words, sym (went.asks runs.asked runs.accepted.source.words) ∙ asks, inl (records_from_before call went name records))
+  | recorded name asks same kept records reads err ↦ inr (inl (recorded_run call went name asks same kept records))
   | unmade name kept is files tries ↦ inl (kept_on call.files.before went.files call.files.after went.read files)
-  | unwritten name asks kept is fails reads tries ↦
-      let runs : RunsModule call went.found = found_runs call went kept in
-      inr (runs.asked, name, runs.accepted.source.words, sym (went.asks runs.asked runs.accepted.source.words) ∙ asks, inr (fails_from_before call went name fails))
+  | unwritten name asks kept is fails reads tries ↦ inr (inr (is, unrecorded call went name asks kept fails))
 ]
 
 some_injective : (A : Type 0) (a b : A) → Some a ≡ Some b → a ≡ b
@@ -111,6 +126,16 @@ some_injective A a b e = cc
 
 none_or_some : {A : Type 0} (name : Word) (recording : Option Word) → recording ≡ None → recording ≡ Some name → A
 none_or_some {A} name recording none some = let both : None ≡ Some name = sym none ∙ some in absurd cc
+
+pub keeps_unnamed : (call : TopCall) → Went call → KeepsUnnamed call
+keeps_unnamed call went asked order none =
+    let nothing : went.recording ≡ None = went.asks asked order ∙ none in
+    elim (ends call went) [
+      | plain why still ↦ kept_on call.files.before went.files call.files.after went.read still.kept
+      | recorded name asks same kept records reads err ↦ none_or_some name went.recording nothing asks
+      | unmade name kept is files tries ↦ kept_on call.files.before went.files call.files.after went.read files
+      | unwritten name asks kept is fails reads tries ↦ none_or_some name went.recording nothing asks
+    ]
 
 pub records_journal : (call : TopCall) → Went call → RecordsJournal call
 records_journal call went asked name order asks kept =
@@ -243,8 +268,8 @@ reads_show call went read =
       ]
     ]
 
-pub shows_faults : (call : TopCall) → Went call → ShowsFaults call
-shows_faults call went = (
-  λ failed. elim failed [ inl err ↦ err_failed call went err | inr write ↦ write_failed call went write ],
-  λ rose. reads_show call went (read_failed call went rose),
-)
+pub shows_write_faults : (call : TopCall) → Went call → ShowsWriteFaults call
+shows_write_faults call went failed = elim failed [ inl err ↦ err_failed call went err | inr write ↦ write_failed call went write ]
+
+pub shows_read_faults : (call : TopCall) → Went call → ShowsReadFaults call
+shows_read_faults call went rose = reads_show call went (read_failed call went rose)

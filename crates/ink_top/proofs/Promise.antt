@@ -2,7 +2,8 @@
 use Rattle.ink_top.specs.Headline.{TopCall, KeepsModule, OrdersMessages, IsPromised}
 use Rattle.ink_top.proofs.Ending.{Went}
 use Rattle.ink_top.proofs.Clauses.{refused_module, judged_module, writes_print, writes_module, writes_listing, refuses_words}
-use Rattle.ink_top.proofs.Outcomes.{means_cause, keeps_other_files, records_journal, shows_faults}
+use Rattle.ink_top.proofs.Outcomes.{means_cause, keeps_other_files, keeps_unnamed, records_journal, shows_write_faults, shows_read_faults}
+use Rattle.ink_top.proofs.Output.{shows_output_faults}
 use Rattle.ink_top.proofs.Told.{tells_cause}
 
 pub promised : (call : TopCall) → Went call → KeepsModule call → OrdersMessages call → IsPromised call
@@ -16,8 +17,11 @@ promised call went same order = record {
   usage = refuses_words call went;
   cause = means_cause call went;
   files = keeps_other_files call went;
+  unnamed = keeps_unnamed call went;
   journal = records_journal call went;
-  faults = shows_faults call went;
+  write_faults = shows_write_faults call went;
+  output_faults = shows_output_faults call went;
+  read_faults = shows_read_faults call went;
   told = tells_cause call went;
   order = order;
 }

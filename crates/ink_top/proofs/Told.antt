@@ -17,6 +17,7 @@ use Rattle.ink_top.specs.Headline.{TopCall, HasModule, IsToRead, IsTextOf, IsRep
 use Rattle.ink_top.specs.Keeping.{IsKept}
 use Rattle.ink_top.proofs.Ending.{Went, deed, change, plain, recorded, unmade, unwritten, ends, told_as, kept_same, memory_unkept, write_unkept}
 use Rattle.ink_top.proofs.Meanings.{found_means, has_source, has_module}
+use Rattle.ink_top.proofs.Reported.{found_reports}
 
 -- the file that was to be read, where it wasn't
 
@@ -75,36 +76,39 @@ to_read call went read = elim went.performed [
   | inr ran ↦ order_to_read call went ran.0 ran.1 read ran.3
 ]
 
-write_or_read : {A : Type 0} (cause : Cause) → cause ≡ WriteFault → cause ≡ ReadFault → A
-write_or_read {A} cause write read = let both : WriteFault ≡ ReadFault = sym write ∙ read in absurd cc
+-- a cause that takes no other's place was found so
 
-memory_or_read : {A : Type 0} (cause : Cause) → cause ≡ OutOfMemory → cause ≡ ReadFault → A
-memory_or_read {A} cause memory read = let both : OutOfMemory ≡ ReadFault = sym memory ∙ read in absurd cc
-
-told_read : (call : TopCall) (went : Went call) → went.told ≡ ReadFault → went.found ≡ ReadFault
-told_read call went read = elim (told_as went.found went.told went.name went.report (change call.err.before went.err) went.tells) [
-  | inl same ↦ sym same ∙ read
-  | inr place ↦ elim place.1 [ inl memory ↦ memory_or_read went.told memory read | inr write ↦ write_or_read went.told write.0 read ]
+told_found : (call : TopCall) (went : Went call) (held : Cause) → (held ≡ WriteFault → ⊥) → (held ≡ OutOfMemory → ⊥) → went.told ≡ held → went.found ≡ held
+told_found call went held write memory is = elim (told_as went.found went.told went.name went.report (change call.err.before went.err) went.tells) [
+  | inl same ↦ sym same ∙ is
+  | inr place ↦ elim place.1 [ inl out ↦ absurd (memory (sym is ∙ out)) | inr cut ↦ absurd (write (sym is ∙ cut.0)) ]
 ]
 
-found_read : (call : TopCall) (went : Went call) → call.cause ≡ ReadFault → went.found ≡ ReadFault
-found_read call went read = elim (ends call went) [
-  | plain why nothing ↦ told_read call went (sym nothing.same ∙ read)
-  | recorded name asks same kept records reads err ↦ told_read call went (sym same ∙ read)
-  | unmade name kept is files tries ↦ memory_or_read call.cause is read
-  | unwritten name asks kept is fails reads tries ↦ write_or_read call.cause is read
+found_as : (call : TopCall) (went : Went call) (held : Cause) → (held ≡ WriteFault → ⊥) → (held ≡ OutOfMemory → ⊥) → call.cause ≡ held → went.found ≡ held
+found_as call went held write memory is = elim (ends call went) [
+  | plain why nothing ↦ told_found call went held write memory (sym nothing.same ∙ is)
+  | recorded name asks same kept records reads err ↦ told_found call went held write memory (sym same ∙ is)
+  | unmade name kept by files tries ↦ absurd (memory (sym is ∙ by))
+  | unwritten name asks kept by fails reads tries ↦ absurd (write (sym is ∙ by))
 ]
 
 -- the text of the cause that was found, and of that of the call
 
 found_text : (call : TopCall) (went : Went call) → IsTextOf call went.found (cause_text went.found went.name went.report)
-found_text call went = record { name = went.name; named = to_read call went; report = went.report; written = refl }
+found_text call went = record {
+  name = went.name;
+  named = to_read call went;
+  report = went.report;
+  reported = found_reports call went;
+  written = refl;
+}
 
 text_of : (call : TopCall) (went : Went call) → IsTextOf call call.cause (cause_text call.cause went.name went.report)
 text_of call went = record {
   name = went.name;
-  named = λ read. to_read call went (found_read call went read);
+  named = λ read. to_read call went (found_as call went ReadFault (λ e. cc) (λ e. cc) read);
   report = went.report;
+  reported = λ process is. found_reports call went process (found_as call went (Panicked process) (λ e. cc) (λ e. cc) is);
   written = refl;
 }
 

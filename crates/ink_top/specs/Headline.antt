@@ -24,8 +24,9 @@ use Rattle.ink_causes.specs.Causes.{cause_text, IsFault}
 use Rattle.ink_causes.specs.Devices.{Change, FilesState, SinkState, KeepsFiles, HasFailed, Gets, Cuts}
 use Rattle.ink_causes.specs.Telling.{IsFront, IsCutFront}
 use Rattle.ink_causes.specs.declared.cause.Cause.{Cause}
-use Rattle.ink_causes.specs.declared.cause.Cause.TheVariants.{Accepted, Written, Refused, Usage, ReadFault, WriteFault, OutOfMemory, BadJournal, Unbuilt}
+use Rattle.ink_causes.specs.declared.cause.Cause.TheVariants.{Accepted, Written, Refused, Usage, ReadFault, WriteFault, OutOfMemory, BadJournal, Panicked, Wrong, Unbuilt}
 use Rattle.ink_commands.specs.Orders.{file_of, limits_of}
+use Rattle.ink_commands.specs.Reports.{IsReport}
 use Rattle.ink_commands.specs.Runs.{RanCode, ReplayedCode}
 use Rattle.ink_commands.specs.Sources.{most_read, most_journal}
 use Rattle.ink_commands.specs.Verdict.{IsFurther}
@@ -165,9 +166,10 @@ MayRefuse asked bytes refusal =
 abbrev pub CutsText : TopCall → Type 0
 CutsText call = (text : List ℕ) × IsTextFor call text × (call.journal ≡ []) × Cuts call.out text
 
--- a run ended for this cause, and the file of its journal could not be written
+-- a run ended for this cause, after which its journal is kept, and the file for that could not be written
 pub record UnrecordedRun (call : TopCall) : Type 0 where
   pub cause : Cause
+  pub kept : IsKept cause
   pub ran : RunsModule call cause
   pub name : Word
   pub asks : recording_of ran.asked ≡ Some name
@@ -206,11 +208,21 @@ Means cause call = RunsModule call cause
 abbrev pub MeansCause : TopCall → Type 0
 MeansCause call = Means call.cause call
 
--- the files as they were but for the one that gets the journal: that holds it, or could not be written
+-- a run ended, or came to a limit, and the file that is to get its journal holds it
+pub record RecordedRun (call : TopCall) : Type 0 where
+  pub kept : IsKept call.cause
+  pub ran : RunsModule call call.cause
+  pub name : Word
+  pub asks : recording_of ran.asked ≡ Some name
+  pub records : Records name call.journal call.files
+
+-- The files are as they were, but for the one that gets the journal: that holds it, or could not be written.
 abbrev pub KeepsOtherFiles : TopCall → Type 0
-KeepsOtherFiles call = KeepsFiles call.files
-    ⊎ ((asked : Asked) × (name : Word) × IsOrder asked call.words × (recording_of asked ≡ Some name)
-    × (Records name call.journal call.files ⊎ FailsToRecord name call.files))
+KeepsOtherFiles call = KeepsFiles call.files ⊎ RecordedRun call ⊎ ((call.cause ≡ WriteFault) × UnrecordedRun call)
+
+-- Where no file is to get a journal, the files are as they were.
+abbrev pub KeepsUnnamed : TopCall → Type 0
+KeepsUnnamed call = (asked : Asked) → IsOrder asked call.words → recording_of asked ≡ None → KeepsFiles call.files
 
 -- The journal of a run that ended, or came to a limit, stands in the file that is to get it.
 abbrev pub RecordsJournal : TopCall → Type 0
@@ -221,19 +233,34 @@ RecordsJournal call = (asked : Asked) (name : Word) → IsOrder asked call.words
 abbrev pub HasFailedToWrite : TopCall → Type 0
 HasFailedToWrite call = call.files.before.writes.count < call.files.after.writes.count
 
--- A fault that was counted shows in the cause, unless memory ran out: one of `err`, or of the file of a journal, as a write
--- fault, and where none of these failed, one of a read as a read fault.
-abbrev pub ShowsFaults : TopCall → Type 0
-ShowsFaults call =
-    (HasFailed call.err ⊎ HasFailedToWrite call → call.cause ≡ WriteFault ⊎ call.cause ≡ OutOfMemory)
-    × (call.files.before.reads.count < call.files.after.reads.count
-    → call.cause ≡ ReadFault ⊎ ((call.cause ≡ WriteFault) × HasFailed call.err) ⊎ call.cause ≡ OutOfMemory)
+-- A fault of `err` that was counted, or of the file of a journal, shows in the cause as a write fault, unless memory ran out.
+abbrev pub ShowsWriteFaults : TopCall → Type 0
+ShowsWriteFaults call = HasFailed call.err ⊎ HasFailedToWrite call → call.cause ≡ WriteFault ⊎ call.cause ≡ OutOfMemory
 
--- what is told of a cause: of a read fault, with the name of the file that was to be read
+-- the code of a process was found wrong
+abbrev pub IsFoundWrong : Cause → Type 0
+IsFoundWrong cause = (process : ℕ) × (cause ≡ Wrong process)
+
+-- So does one of the output, unless the code of a process was found wrong.
+abbrev pub ShowsOutputFaults : TopCall → Type 0
+ShowsOutputFaults call = HasFailed call.out → call.cause ≡ WriteFault ⊎ call.cause ≡ OutOfMemory ⊎ IsFoundWrong call.cause
+
+-- One of a read shows as a read fault, unless what was told of it failed or memory ran out.
+abbrev pub ShowsReadFaults : TopCall → Type 0
+ShowsReadFaults call = call.files.before.reads.count < call.files.after.reads.count
+    → call.cause ≡ ReadFault ⊎ ((call.cause ≡ WriteFault) × HasFailed call.err) ⊎ call.cause ≡ OutOfMemory
+
+-- the report of a panic of this process, with which a module stopped that was run or replayed
+pub record IsReportOf (call : TopCall) (process : ℕ) (report : List ℕ) : Type 0 where
+  pub ran : RunsModule call (Panicked process)
+  pub reports : IsReport ran.code (limits_of ran.asked) call.journal process report
+
+-- what is told of a cause: of a read fault, with the name of the file that was to be read; of a panic, its report
 pub record IsTextOf (call : TopCall) (cause : Cause) (text : List ℕ) : Type 0 where
   pub name : Word
   pub named : cause ≡ ReadFault → IsToRead call name
   pub report : List ℕ
+  pub reported : (process : ℕ) → cause ≡ Panicked process → IsReportOf call process report
   pub written : text ≡ cause_text cause name report
 
 -- the cause that the call had before a write fault, or want of memory, took its place, and what would be told of it
@@ -274,7 +301,10 @@ pub record IsPromised (call : TopCall) : Type 0 where
   pub usage : RefusesWords call
   pub cause : MeansCause call
   pub files : KeepsOtherFiles call
+  pub unnamed : KeepsUnnamed call
   pub journal : RecordsJournal call
-  pub faults : ShowsFaults call
+  pub write_faults : ShowsWriteFaults call
+  pub output_faults : ShowsOutputFaults call
+  pub read_faults : ShowsReadFaults call
   pub told : TellsCause call
   pub order : OrdersMessages call

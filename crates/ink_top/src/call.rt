@@ -36,6 +36,7 @@ fn perform<'a, R: Threads + Sync, F: Files, K: Sink + Drop>(
         after = files_of F.held F.read_faults F.write_faults files.new;
       };
       journal = result.outcome.journal.entries;
+      report = result.outcome.report;
       out = record { before = sink_of K.contents K.faults out; after = sink_of K.contents K.faults result.outcome.out };
     }) }
     ensures files { KeepsFiles (record {

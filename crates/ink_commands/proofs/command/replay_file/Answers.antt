@@ -7,5 +7,5 @@ returns-in-Ok-clause-did g c =
     rw (c.found-in-Ok.ensures.outcome, c.found-in-Ok.ensures.name, c.bytes-in-Ok.ensures)
     (replays _ c.args.file.now c.args.journal.now (files_of g.F.Files.held g.F.Files.read_faults g.F.Files.write_faults c.args.files.now)
     (files_of g.F.Files.held g.F.Files.read_faults g.F.Files.write_faults c.code_of_file.new.files)
-    (files_of g.F.Files.held g.F.Files.read_faults g.F.Files.write_faults c.replay_journal-outcome.new.files) _ _ c.args.limits.now c.in-Ok.code
+    (files_of g.F.Files.held g.F.Files.read_faults g.F.Files.write_faults c.replay_journal-outcome.new.files) _ _ _ c.args.limits.now c.in-Ok.code
     c.in-Ok.ensures.made c.code_of_file.ensures.files c.replay_journal-outcome.ensures.did)
