@@ -155,10 +155,10 @@ no_journal_means call files file journal limits bytes (BadJournal right) sits id
 no_journal_means call files file journal limits bytes OutOfMemory sits idle has reads none = inl (sits.undone (λ kept. kept) idle)
 no_journal_means call files file journal limits bytes cause sits idle has reads none = absurd none
 
-entries_mean : (call : TopCall) (files : FilesState) (file journal : Word) (limits bytes : List ℕ) (code : Code) (cause : Cause) → IsWithin code → Sits call files cause
+entries_mean : (call : TopCall) (files : FilesState) (file journal : Word) (limits bytes : List ℕ) (code : Code) (cause : Cause) (report : List ℕ) → IsWithin code → Sits call files cause
     → HasModule call (Asked.Replays file journal limits) → Reads call.files.before.held journal (most_journal limits) bytes
-    → ReplayedBytes code limits cause bytes call.journal call.out → Means cause call
-entries_mean call files file journal limits bytes code cause within sits has reads replayed = elim replayed [
+    → ReplayedBytes code limits cause bytes call.journal report call.out → Means cause call
+entries_mean call files file journal limits bytes code cause report within sits has reads replayed = elim replayed [
   | inl none ↦ no_journal_means call files file journal limits bytes cause sits none.1 has reads none.0
   | inr some ↦ replay_means call cause some.2.stops (record {
     asked = Asked.Replays file journal limits;
@@ -179,7 +179,7 @@ replay_source_means call went file journal limits bytes sits has replayed =
       | inr some ↦
           let module_is : HasModule call asked = has_module call asked bytes has some.1.0.is in
           elim some.2 [
-            | inl it ↦ entries_mean call went.files file journal limits it.0 some.0 went.found some.1.1 sits module_is it.1 it.2.1
+            | inl it ↦ entries_mean call went.files file journal limits it.0 some.0 went.found went.report some.1.1 sits module_is it.1 it.2.1
             | inr it ↦ unread_means call went.files went.found journal sits it.1 (inr (file, limits, module_is)) it.2
           ]
     ]

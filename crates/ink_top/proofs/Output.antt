@@ -1,5 +1,5 @@
 -- A fault of the output shows in the cause.
-use Rattle.std.proofs.Common.{◌≡◌, ℕ, ◌⊎◌, inl, inr, List, [], Option, None, Some, refl, sym, subst}
+use Rattle.std.proofs.Common.{◌≡◌, ℕ, ◌⊎◌, inl, inr, List, Option, None, Some, refl, sym, subst}
 use Rattle.ink_words.specs.Commands.{Asked}
 use Rattle.ink_code.specs.Listing.{listing_text}
 use Rattle.ink_code.specs.declared.code.Code.{Code}
@@ -8,7 +8,7 @@ use Rattle.ink_causes.proofs.Sinks.{idle_or_failed, whole_or_failed}
 use Rattle.ink_causes.specs.Devices.{Change, SinkState, HasFailed}
 use Rattle.ink_causes.specs.declared.cause.Cause.{Cause}
 use Rattle.ink_causes.specs.declared.cause.Cause.TheVariants.{OutOfMemory, Refused, Written, WriteFault, Wrong}
-use Rattle.ink_commands.specs.Orders.{Came, Did, FromFile, ReplayedBytes}
+use Rattle.ink_commands.specs.Orders.{Came, Did, FromFile}
 use Rattle.ink_commands.specs.Runs.{Replays, Wrote, WroteIn, WroteRounds}
 use Rattle.ink_commands.specs.Sources.{IsIdle, MadeModule, PrintedSource, WritesText}
 use Rattle.ink_top.specs.Headline.{TopCall, IsFoundWrong, ShowsOutputFaults}
